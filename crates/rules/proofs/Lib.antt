@@ -1,0 +1,5 @@
+pub mod Laws
+pub mod Last
+pub mod Filling
+pub mod Demand
+pub mod AnyRules
