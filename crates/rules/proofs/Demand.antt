@@ -10,7 +10,7 @@ use lib.ListN.{length, drop}
 use lib.Seq.{drop-append-le, drop-drop}
 use lib.Dec.{eqb}
 use borrow.Author.Tests.{lt-ltb, le-ltb, eq-eqb, ne-eqb}
-use Rattle.rules.specs.Rule.{Rule, Stop, moreBytes, Read, got, stops, taking, read, andThen}
+use Rattle.rules.specs.Rule.{Rule, Stop, moreBytes, Read, got, stops, taking, read, _>>=_}
 use Rattle.rules.specs.Calls.{Item, Answer, full, stopped, Reading, ahead, oneRecord, goOn, Call, next, fill, fillUnequal, asks, asked, Result, resultOf, opening}
 use Rattle.rules.specs.Calls.{readUpTo, call, allRecords, firstFewer, called, afterRecords, byCalls, byRules, DueEndsPast, Demand}
 use Rattle.rules.proofs.Filling.{joined}
@@ -180,7 +180,7 @@ module _ {S R : Type 0} (rule : S → Rule (Item S R)) where
 
   -- what is due behind the records that a reading has
   due-behind : (n : ℕ) (st : S) (bs : List ℕ) → let s = straight n st bs in
-      read false (andThen (afterRecords rule (length (s .records)) st) rule) bs ≡ taking (s .consumed) (step (s .state) (drop (s .consumed) bs))
+      read false (afterRecords rule (length (s .records)) st >>= rule) bs ≡ taking (s .consumed) (step (s .state) (drop (s .consumed) bs))
   due-behind n st bs =
       let s = straight n st bs in
       read-then false (afterRecords rule (length (s .records)) st) rule bs ∙ ap (readThen false bs rule) (reaches n st bs)
@@ -188,13 +188,13 @@ module _ {S R : Type 0} (rule : S → Rule (Item S R)) where
   module _ (start : Rule S) where
     -- the rules from byte 0, by what the opening reads
     abbrev fromStart : ℕ → List ℕ → Read S → Read (Item S R)
-    fromStart m F x = readThen false F (λ st. andThen (afterRecords rule m st) rule) x
+    fromStart m F x = readThen false F (λ st. afterRecords rule m st >>= rule) x
 
     due-iff : (m : ℕ) (F : List ℕ) → DueEndsPast rule start m F ↔ (fromStart m F (read false start F) ≡ stops moreBytes)
     unfolding DueEndsPast
     due-iff m F =
-        let g : S → Rule (Item S R) = λ st. andThen (afterRecords rule m st) rule in
-        ((λ p. sym (read-then false start g F) ∙ waits-iff (andThen start g) F .1 p), λ e. waits-iff (andThen start g) F .0 (read-then false start g F ∙ e))
+        let g : S → Rule (Item S R) = λ st. afterRecords rule m st >>= rule in
+        ((λ p. sym (read-then false start g F) ∙ waits-iff (start >>= g) F .1 p), λ e. waits-iff (start >>= g) F .0 (read-then false start g F ∙ e))
 
     -- what the theorem says of a result x on F, where n records were asked for, and of a result y on F with more behind it
     abbrev Facts : ℕ → (ℕ → Type 0) → Result R → Result R → Type 0

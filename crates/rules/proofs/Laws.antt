@@ -10,7 +10,7 @@ use lib.ListN.{length, take, drop, length-append, length-drop}
 use lib.Seq.{take-append-le, drop-append-le, drop-drop}
 use lib.Dec.{leb}
 use borrow.Author.Tests.{leb-true, leb-false, le-leb, lt-leb}
-use Rattle.rules.specs.Rule.{Rule, gives, field, refuses, ends, Stop, refused, finished, moreBytes, Read, got, stops, taking, lacks, read, EndsPast, andThen, mapRule, mapRead}
+use Rattle.rules.specs.Rule.{Rule, gives, field, refuses, ends, Stop, refused, finished, moreBytes, Read, got, stops, taking, lacks, read, EndsPast, _>>=_, number, mayEnd, mapRule, mapRead}
 
 -- ---- answers are told apart
 
@@ -60,8 +60,8 @@ abbrev pub readThen : {A B : Type 0} → Bool → List ℕ → (A → Rule B) �
 readThen last bs f (got a n) = taking n (read last (f a) (drop n bs))
 readThen last bs f (stops z) = stops z
 
-pub read-then : {A B : Type 0} (last : Bool) (r : Rule A) (f : A → Rule B) (bs : List ℕ) → read last (andThen r f) bs ≡ readThen last bs f (read last r bs)
-unfolding read andThen
+pub read-then : {A B : Type 0} (last : Bool) (r : Rule A) (f : A → Rule B) (bs : List ℕ) → read last (r >>= f) bs ≡ readThen last bs f (read last r bs)
+unfolding read _>>=_
 read-then last (gives a) f bs = sym (taking-none (read last (f a) bs))
 read-then last (refuses c) f bs = refl
 read-then last ends f bs = refl
@@ -71,17 +71,16 @@ read-then {A} last (field may w k) f bs = field-by (read-then last (k (take w bs
     behind (got a n) = taking-twice w n (read last (f a) (drop n (drop w bs))) ∙ rw drop-drop refl
     behind (stops z) = refl
 
-    field-by : read last (andThen (k (take w bs)) f) (drop w bs) ≡ readThen last (drop w bs) f (read last (k (take w bs)) (drop w bs)) →
-        read last (andThen (field may w k) f) bs ≡ readThen last bs f (read last (field may w k) bs)
+    field-by : read last (k (take w bs) >>= f) (drop w bs) ≡ readThen last (drop w bs) f (read last (k (take w bs)) (drop w bs)) →
+        read last (field may w k >>= f) bs ≡ readThen last bs f (read last (field may w k) bs)
     field-by ih =
         by-fit w bs
-        (λ h. read-fits last may w (λ v. andThen (k v) f) bs h ∙ ap (taking w) ih ∙ behind (read last (k (take w bs)) (drop w bs)) ∙ ap (readThen last bs f) (sym (read-fits last may w k bs h)))
-        (λ h. read-past last may w (λ v. andThen (k v) f) bs h ∙ ap (readThen last bs f) (sym (read-past last may w k bs h)))
+        (λ h. read-fits last may w (λ v. k v >>= f) bs h ∙ ap (taking w) ih ∙ behind (read last (k (take w bs)) (drop w bs)) ∙ ap (readThen last bs f) (sym (read-fits last may w k bs h)))
+        (λ h. read-past last may w (λ v. k v >>= f) bs h ∙ ap (readThen last bs f) (sym (read-past last may w k bs h)))
 
 -- ---- a mapped rule reads the same fields
 
 pub read-map : {A B : Type 0} (last : Bool) (f : A → B) (r : Rule A) (bs : List ℕ) → read last (mapRule f r) bs ≡ mapRead f (read last r bs)
-unfolding mapRule
 read-map {A} last f r bs = read-then last r (λ a. gives (f a)) bs ∙ outcome (read last r bs)
   where
     outcome : (x : Read A) → readThen last bs (λ a. gives (f a)) x ≡ mapRead f x

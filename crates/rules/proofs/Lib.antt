@@ -1,4 +1,5 @@
 pub mod Laws
+pub mod Places
 pub mod Last
 pub mod Filling
 pub mod Demand

@@ -6,7 +6,7 @@ use mathlib.Core.List.{List, [], _∷_, _++_}
 use Prim.Native.Nat.{ℕ, zero, suc, _+_, _<_}
 use lib.ListN.{length, drop}
 use lib.Dec.{ltb, eqb}
-use Rattle.rules.specs.Rule.{Rule, gives, Stop, refused, finished, moreBytes, Read, got, stops, read, EndsPast, andThen}
+use Rattle.rules.specs.Rule.{Rule, gives, Stop, refused, finished, moreBytes, Read, got, stops, read, EndsPast, _>>=_}
 
 -- what the rule of a state gives: a record, and the state after it
 pub record Item (S R : Type 0) : Type 0 where
@@ -114,7 +114,7 @@ module _ {S R : Type 0} (rule : S → Rule (Item S R)) where
   -- the fields of n records, one behind the other
   unfoldable pub afterRecords : ℕ → S → Rule S
   afterRecords zero st = gives st
-  afterRecords (suc n) st = andThen (rule st) λ x. afterRecords n (x .after)
+  afterRecords (suc n) st = rule st >>= λ x. afterRecords n (x .after)
 
   module _ (start : Rule S) where
     -- R and Z, by the calls
@@ -127,7 +127,7 @@ module _ {S R : Type 0} (rule : S → Rule (Item S R)) where
 
     -- 'A field due next ends past F', after the first n records: the fields of the opening, of n records and of the next, from byte 0
     unfoldable pub DueEndsPast : ℕ → List ℕ → Type 0
-    DueEndsPast n F = EndsPast (andThen start λ st. andThen (afterRecords n st) rule) F
+    DueEndsPast n F = EndsPast (start >>= λ st. afterRecords n st >>= rule) F
 
     -- demand 3 for any rules: R and Z are what the calls give on F, and S and Y what they give on F with G behind it
     pub record Demand (cs : List Call) (F G : List ℕ) : Type 0 where

@@ -14,13 +14,6 @@ pub data Rule (A : Type 0) : Type 0 where
   refuses : ℕ → Rule A  -- by document 01's number
   ends : Rule A  -- 'finished'
 
-abbrev pub needs : {A : Type 0} → ℕ → (List ℕ → Rule A) → Rule A
-needs w k = field false w k
-
--- FORMAT 2.2. FID and MWD: no bytes left, and these are the last: 'finished'
-abbrev pub mayEnd : {A : Type 0} → ℕ → (List ℕ → Rule A) → Rule A
-mayEnd w k = field true w k
-
 -- the answers without an outcome
 pub data Stop : Type 0 where
   refused : ℕ → Stop
@@ -73,16 +66,38 @@ pub record ToldLast {A : Type 0} (r : Rule A) (bs : List ℕ) : Type 0 where
   pub agrees : ¬ EndsPast r bs → read true r bs ≡ read false r bs
   pub differs : EndsPast r bs → AtEnd r bs (read true r bs)
 
--- one rule behind another: the fields of the first, and by its outcome those of the second
-unfoldable pub andThen : {A B : Type 0} → Rule A → (A → Rule B) → Rule B
-andThen (gives a) f = f a
-andThen (field may w k) f = field may w λ bs. andThen (k bs) f
-andThen (refuses c) f = refuses c
-andThen ends f = ends
+-- ---- rules made of rules
+
+-- the fields of one rule, and by its outcome those of another
+infixl 1 _>>=_
+unfoldable pub _>>=_ : {A B : Type 0} → Rule A → (A → Rule B) → Rule B
+gives a >>= f = f a
+field may w k >>= f = field may w λ bs. k bs >>= f
+refuses c >>= f = refuses c
+ends >>= f = ends
+
+infixl 1 _>>_
+abbrev pub _>>_ : {A B : Type 0} → Rule A → Rule B → Rule B
+r >> s = r >>= λ _. s
+
+-- one field of w bytes, and what they mean
+abbrev pub number : {A : Type 0} → ℕ → (List ℕ → A) → Rule A
+number w meaning = field false w λ bs. gives (meaning bs)
+
+-- w bytes passed over together
+abbrev pub skip : ℕ → Rule (Unit {0})
+skip w = number w λ _. tt
+
+-- FORMAT 2.2. FID and MWD: the file may end before the first field
+abbrev pub mayEnd : {A : Type 0} → Rule A → Rule A
+mayEnd (gives a) = gives a
+mayEnd (field may w k) = field true w k
+mayEnd (refuses c) = refuses c
+mayEnd ends = ends
 
 -- the same fields, and another outcome made of each
-unfoldable pub mapRule : {A B : Type 0} → (A → B) → Rule A → Rule B
-mapRule f r = andThen r λ a. gives (f a)
+abbrev pub mapRule : {A B : Type 0} → (A → B) → Rule A → Rule B
+mapRule f r = r >>= λ a. gives (f a)
 
 abbrev pub mapRead : {A B : Type 0} → (A → B) → Read A → Read B
 mapRead f (got a n) = got (f a) n
