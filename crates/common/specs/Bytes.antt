@@ -5,6 +5,8 @@ use Prim.Native.Nat.{ℕ, _+_, _-_, _*_, _^_}
 use lib.IntN.{ℤ, pos, _-ℤ_}
 use lib.Dec.{ltb}
 use lib.ListN.{length, take, drop}
+use Rattle.common.specs.declared.Endian.{Endian}
+use Rattle.common.specs.declared.Endian.the-variants.{Big, Little}
 
 -- FORMAT 1.1. Little-endian: the first byte counts ones
 abbrev pub le : List ℕ → ℕ
@@ -14,6 +16,10 @@ le (b ∷ bs) = b + 256 * le bs
 -- FORMAT 1.1. Big-endian: the last byte counts ones
 abbrev pub be : List ℕ → ℕ
 be bs = le (reverse bs)
+
+abbrev pub orderOf : Endian → List ℕ → ℕ
+orderOf Big = be
+orderOf Little = le
 
 -- FORMAT 1.2. Two's complement: of so many bits, the numbers from half on stand for those below 0
 abbrev pub twos : ℕ → ℕ → ℤ

@@ -3,7 +3,7 @@
 ghost use mathlib.Core.Path.{_≡_};
 ghost use Prim.Native.Nat.{_+_, _*_, _≤_};
 ghost use lib.ListN.{length};
-ghost use Rattle.common.specs.Bytes.{be, le, signed, twos, part};
+ghost use Rattle.common.specs.Bytes.{be, le, orderOf, signed, twos, part};
 
 // ---- two halves of a number, the high one first
 
@@ -119,4 +119,31 @@ pub fn le_u64(s: &[u8], at: usize) -> u64
     ensures { λ r. ⌜ r ≡ le (part at 8 (now (s .entry))) ⌝ }
 {
     join64(le_u32(s, at + 4), le_u32(s, at))
+}
+
+// ---- in an order that is passed along
+
+pub enum Endian {
+    Big,
+    Little,
+}
+
+pub fn i16_in(order: Endian, s: &[u8], at: usize) -> i16
+    requires { ⌜ at + 2 ≤ length (now s) ⌝ }
+    ensures { λ r. ⌜ r ≡ signed (orderOf order) (part at 2 (now (s .entry))) ⌝ }
+{
+    match order {
+        Endian::Big => be_i16(s, at),
+        Endian::Little => le_i16(s, at),
+    }
+}
+
+pub fn i32_in(order: Endian, s: &[u8], at: usize) -> i32
+    requires { ⌜ at + 4 ≤ length (now s) ⌝ }
+    ensures { λ r. ⌜ r ≡ signed (orderOf order) (part at 4 (now (s .entry))) ⌝ }
+{
+    match order {
+        Endian::Big => be_i32(s, at),
+        Endian::Little => le_i32(s, at),
+    }
 }

@@ -7,11 +7,8 @@ use native.Mathlib.Nat.{add-zero}
 use native.Mathlib.Omega.{arith}
 use lib.ListN.{length, take, drop, length-drop}
 use lib.Seq.{drop-drop}
-use Rattle.rules.specs.Rule.{Rule, gives, field, refuses, ends, Stop, refused, finished, moreBytes, Read, got, stops, taking, lacks, read, _>>=_, number, mayEnd}
+use Rattle.rules.specs.Rule.{Rule, gives, field, refuses, ends, Stop, refused, finished, moreBytes, Read, got, stops, taking, lacks, read, readAt, _>>=_, number, mayEnd}
 use Rattle.rules.proofs.Laws.{by-fit, read-fits, read-past, taking-none, taking-twice, readThen, read-then}
-
-abbrev pub readAt : {A : Type 0} → Bool → Rule A → ℕ → List ℕ → Read A
-readAt last r at s = taking at (read last r (drop at s))
 
 pub at-start : {A : Type 0} (last : Bool) (r : Rule A) (s : List ℕ) → readAt last r 0 s ≡ read last r s
 at-start last r s = taking-none (read last r s)

@@ -43,6 +43,10 @@ read last (field may w k) bs = elim (leb w (length bs)) [ true ↦ taking w (rea
 read last (refuses c) bs = stops (refused c)
 read last ends bs = stops finished
 
+-- the same from a position on, with the bytes before it taken too
+abbrev pub readAt : {A : Type 0} → Bool → Rule A → ℕ → List ℕ → Read A
+readAt last r at s = taking at (read last r (drop at s))
+
 -- 'A field due next ends past F': the rule reaches a field that is longer than what is left before it reaches an outcome, a refusal or the end
 unfoldable pub EndsPast : {A : Type 0} → Rule A → List ℕ → Type 0
 EndsPast (gives a) bs = ⊥
