@@ -12,7 +12,7 @@ use lib.ListN.{length, take, drop, getD, length-append, length-take, length-drop
 use lib.Seq.{take-add, drop-drop, drop-cons}
 use Rattle.common.specs.Bytes.{le, be, twos, signed, part}
 
-length-reverse : (l : List ℕ) → length (reverse l) ≡ length l
+pub length-reverse : (l : List ℕ) → length (reverse l) ≡ length l
 length-reverse [] = refl
 length-reverse (x ∷ xs) = rw reverse-cons (rw length-append (omega (arith, length-reverse xs)))
 

@@ -1,7 +1,7 @@
 -- Numbers in bytes (FORMAT 1): fixed width, unsigned or two's complement, either byte order.
 use mathlib.Core.List.{List, [], _∷_, reverse}
 use mathlib.Core.Bool.{cond}
-use Prim.Native.Nat.{ℕ, _+_, _-_, _*_, _^_}
+use Prim.Native.Nat.{ℕ, _+_, _-_, _*_, _^_, _<_}
 use lib.IntN.{ℤ, pos, _-ℤ_}
 use lib.Dec.{ltb}
 use lib.ListN.{length, take, drop}
@@ -31,3 +31,8 @@ signed order bs = twos (8 * length bs) (order bs)
 -- the w bytes from a position on
 abbrev pub part : ℕ → ℕ → List ℕ → List ℕ
 part at w s = take w (drop at s)
+
+-- every element is a byte
+unfoldable pub AreBytes : List ℕ → Type 0
+AreBytes [] = Unit
+AreBytes (b ∷ bs) = (b < 256) × AreBytes bs

@@ -87,6 +87,28 @@ read-map {A} last f r bs = read-then last r (λ a. gives (f a)) bs ∙ outcome (
     outcome (got a n) = unfold read in ap (got (f a)) (add-zero n)
     outcome (stops z) = refl
 
+-- ---- what was taken is there
+
+pub taken-within : {A : Type 0} (last : Bool) (r : Rule A) (bs : List ℕ) {a : A} {n : ℕ} → read last r bs ≡ got a n → n ≤ length bs
+unfolding read
+taken-within last (gives b) bs {a} {n} e = let q : n ≡ 0 = cc in omega arith
+taken-within last (refuses c) bs e = absurd (got≢stops (sym e))
+taken-within last ends bs e = absurd (got≢stops (sym e))
+taken-within {A} last (field may w k) bs {a} {n} e = field-by (λ m q. taken-within last (k (take w bs)) (drop w bs) {n = m} q)
+  where
+    behind : ((m : ℕ) → read last (k (take w bs)) (drop w bs) ≡ got a m → m ≤ length (drop w bs)) → w ≤ length bs → (x : Read A) → read last (k (take w bs)) (drop w bs) ≡ x → taking w x ≡ got a n → n ≤ length bs
+    behind ih h (got b m) q t =
+        let p : n ≡ w + m = cc in
+        let same : b ≡ a = cc in
+        omega (arith, ih m (q ∙ ap (λ y. got y m) same), length-drop w bs)
+    behind ih h (stops z) q t = absurd (got≢stops (sym t))
+
+    field-by : ((m : ℕ) → read last (k (take w bs)) (drop w bs) ≡ got a m → m ≤ length (drop w bs)) → n ≤ length bs
+    field-by ih =
+        by-fit w bs
+        (λ h. behind ih h (read last (k (take w bs)) (drop w bs)) refl (sym (read-fits last may w k bs h) ∙ e))
+        (λ h. absurd (got≢stops (sym (sym (read-past last may w k bs h) ∙ e))))
+
 -- ---- 'more bytes' is said exactly where a due field ends past the bytes
 
 pub waits-iff : {A : Type 0} (r : Rule A) (bs : List ℕ) → (read false r bs ≡ stops moreBytes) ↔ EndsPast r bs

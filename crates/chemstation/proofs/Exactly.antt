@@ -1,0 +1,81 @@
+-- The reading in doubles and the reading in whole numbers, record by record: both read the same fields.
+use mathlib.Core.Path.{_≡_, refl, sym, ap, _∙_, subst}
+use mathlib.Core.Bool.{Bool, false}
+use mathlib.Core.List.{List, []}
+use Prim.Native.Nat.{ℕ, zero, suc, _≤_}
+use lib.IntN.{ℤ, pos}
+use lib.ListN.{drop}
+use lib.Ieee.{Float}
+use Rattle.rules.specs.Rule.{Rule, Read, got, stops, read, mapRule, mapRead}
+use Rattle.rules.specs.Calls.{goOn, readUpTo, Call, asked, resultOf, opening, byCalls, byRules}
+use Rattle.rules.proofs.Laws.{read-map}
+use Rattle.rules.proofs.Demand.{demand}
+use Rattle.common.specs.Bytes.{AreBytes}
+use Rattle.common.proofs.Sizes.{bytes-drop}
+use Rattle.common.proofs.Every.{Every, Gets, gets}
+use Rattle.floats.specs.Wholes.{Sum, flat, wholes}
+use Rattle.chemstation.specs.Streams.{Told, fields, sumOf}
+use Rattle.chemstation.specs.Next.{stepped, rule}
+use Rattle.chemstation.specs.Whole.{Whole, summed, wholeRule, atOpen, Begins, kindOf, Kind, Within, Exact, AllExact, ExactReadings}
+use Rattle.chemstation.specs.declared.State.{State}
+use Rattle.chemstation.proofs.Kept.{Holds, holds-exact, begins-holds, Keeps, keeps}
+
+abbrev whole : State → Sum ℤ → ℕ → Whole
+whole st w n = record { state = st; sum = w; deltas = n }
+
+-- a record that is kept is exact
+kept-exact : {k : Kind} {s : Sum Float} {w : Sum ℤ} {n : ℕ} {t : Told} → Keeps k s w n t → Exact k ((stepped s t) .shows) ((summed w n t) .shows)
+kept-exact {k} {s} {w} {n} {t} p l =
+    let st = (stepped s t) .after in
+    let y = (summed w n t) .after in
+    rw (p .shown l) (holds-exact st (y .sum) (y .deltas) (p .holds) (subst (λ k. Within k (y .deltas)) (sym (p .kind)) l))
+
+module _ (last : Bool) where
+  -- of the state in the second reading only the fields count
+  abbrev Reading : ℕ → Type 0
+  Reading m = (st st₀ : State) (w : Sum ℤ) (n : ℕ) (bs : List ℕ) → fields st ≡ fields st₀ → Holds st w n → AreBytes bs →
+      AllExact (kindOf st) ((readUpTo rule last m st bs) .records) ((readUpTo wholeRule last m (whole st₀ w n) bs) .records)
+
+  one-more : (m : ℕ) → Reading m → Reading (suc m)
+  unfolding readUpTo
+  one-more m onward st st₀ w n bs e h b =
+      let same : read last (wholeRule (whole st₀ w n)) bs ≡ mapRead (summed w n) (read last (fields st) bs) =
+      read-map last (summed w n) (fields st₀) bs ∙ ap (λ r. mapRead (summed w n) (read last r bs)) (sym e) in
+      rw (read-map last (stepped (sumOf st)) (fields st) bs, same) (go (read last (fields st) bs) (gets (keeps st w n h) last bs b))
+    where
+      go : (x : Read Told) → Gets (Keeps (kindOf st) (sumOf st) w n) x →
+          AllExact (kindOf st) ((goOn st bs (readUpTo rule last m) (mapRead (stepped (sumOf st)) x)) .records) ((goOn (whole st₀ w n) bs (readUpTo wholeRule last m) (mapRead (summed w n) x)) .records)
+      go (stops z) p = tt
+      go (got t c) p =
+          let x = (stepped (sumOf st) t) .after in
+          let y = (summed w n t) .after in (
+            kept-exact p,
+            subst (λ k. AllExact k ((readUpTo rule last m x (drop c bs)) .records) ((readUpTo wholeRule last m y (drop c bs)) .records)) (p .kind)
+                (onward x (y .state) (y .sum) (y .deltas) (drop c bs) (p .same) (p .holds) (bytes-drop c bs b)),
+          )
+
+  all : (m : ℕ) → Reading m
+  all zero = unfold readUpTo in λ st st₀ w n bs e h b. tt
+  all (suc m) = one-more m (all m)
+
+pub exactly : ExactReadings
+exactly st h last n bs b = all last n st st (flat wholes (pos 0)) 0 bs refl (begins-holds st h) b
+
+-- ---- for an opening
+
+-- what an opening has to give
+pub record Opened (k : Kind) (st : State) : Type 0 where
+  pub kind : kindOf st ≡ k
+  pub begins : Begins st
+
+-- the records of any calls, and the added-up values by the rules
+pub exact-calls : {k : Kind} {start : Rule State} → Every (Opened k) start → (cs : List Call) (F : List ℕ) → 1 ≤ asked cs → AreBytes F →
+    AllExact k ((byCalls rule start cs F) .records) ((byRules wholeRule (mapRule atOpen start) (asked cs) F) .records)
+exact-calls {k} {start} o cs F h b = rw (demand rule start cs F [] h .by-rules, read-map false atOpen start F) (go (read false start F) (gets o false F b))
+  where
+    go : (x : Read State) → Gets (Opened k) x →
+        AllExact k ((opening F (λ st bs. resultOf (readUpTo rule false (asked cs) st bs)) x) .records) ((opening F (λ st bs. resultOf (readUpTo wholeRule false (asked cs) st bs)) (mapRead atOpen x)) .records)
+    go (stops z) p = tt
+    go (got st c) p =
+        subst (λ k. AllExact k ((readUpTo rule false (asked cs) st (drop c F)) .records) ((readUpTo wholeRule false (asked cs) (atOpen st) (drop c F)) .records))
+        (p .kind) (exactly st (p .begins) false (asked cs) (drop c F) (bytes-drop c F b))

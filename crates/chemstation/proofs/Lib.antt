@@ -1,0 +1,14 @@
+pub mod Ints
+pub mod Steps
+pub mod DeltaLaws
+pub mod FidLaws
+pub mod PointLaws
+pub mod DadLaws
+pub mod Adding
+pub mod Kept
+pub mod Exactly
+pub mod UpTo
+pub mod ArrayLaws
+pub mod MsLaws
+pub mod MwdLaws
+pub mod UvLaws

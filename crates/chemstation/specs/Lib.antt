@@ -1,0 +1,4 @@
+pub mod Changes
+pub mod Streams
+pub mod Next
+pub mod Whole

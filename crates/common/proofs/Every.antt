@@ -1,0 +1,68 @@
+-- What holds of every outcome of a rule over bytes, and so of what it reads.
+use mathlib.Core.Path.{_≡_, refl, subst}
+use mathlib.Core.Bool.{Bool, true, false, cond}
+use mathlib.Core.List.{List}
+use Prim.Native.Nat.{ℕ, _-_, _*_, _^_, _≤_, _<_}
+use native.Mathlib.Omega.{arith}
+use lib.IntN.{natAbs}
+use lib.ListN.{length, take, drop, length-take}
+use Rattle.rules.specs.Rule.{Rule, gives, field, refuses, ends, Read, got, stops, taking, read, _>>=_, number, mayEnd}
+use Rattle.rules.proofs.Laws.{by-fit, read-fits, read-past}
+use Rattle.common.specs.Bytes.{signed, AreBytes}
+use Rattle.common.proofs.Sizes.{bytes-take, bytes-drop, Order, signed-within}
+
+pub data Every {A : Type 0} (P : A → Type 0) : Rule A → Type 0 where
+  at-gives : {a : A} → P a → Every P (gives a)
+  at-field : {may : Bool} {w : ℕ} {k : List ℕ → Rule A} → ((bs : List ℕ) → AreBytes bs → length bs ≡ w → Every P (k bs)) → Every P (field may w k)
+  at-refuses : {c : ℕ} → Every P (refuses c)
+  at-ends : Every P ends
+
+-- ---- what is read
+
+abbrev pub Gets : {A : Type 0} → (A → Type 0) → Read A → Type 0
+Gets P (got a n) = P a
+Gets P (stops z) = Unit
+
+gets-taking : {A : Type 0} (P : A → Type 0) (w : ℕ) (x : Read A) → Gets P x → Gets P (taking w x)
+gets-taking P w (got a n) h = h
+gets-taking P w (stops z) h = tt
+
+pub gets : {A : Type 0} {P : A → Type 0} {r : Rule A} → Every P r → (last : Bool) (bs : List ℕ) → AreBytes bs → Gets P (read last r bs)
+gets (at-gives p) last bs h = unfold read in p
+gets at-refuses last bs h = unfold read in tt
+gets at-ends last bs h = unfold read in tt
+gets {P = P} (at-field {may = may} {w = w} {k = k} e) last bs h =
+    by-fit w bs
+    (λ l. rw (read-fits last may w k bs l) (gets-taking P w (read last (k (take w bs)) (drop w bs)) (gets (e (take w bs) (bytes-take w bs h) (simp length-take (omega arith))) last (drop w bs) (bytes-drop w bs h))))
+    (λ l. rw (read-past last may w k bs l) tt)
+
+-- ---- rules made of rules
+
+pub every-then : {A B : Type 0} {Q : A → Type 0} {P : B → Type 0} {r : Rule A} {f : A → Rule B} → Every Q r → ((a : A) → Q a → Every P (f a)) → Every P (r >>= f)
+unfolding _>>=_
+every-then (at-gives {a = a} q) h = h a q
+every-then (at-field e) h = at-field λ bs b l. every-then (e bs b l) h
+every-then at-refuses h = at-refuses
+every-then at-ends h = at-ends
+
+pub every-cond : {A : Type 0} {P : A → Type 0} (b : Bool) {x y : Rule A} → (b ≡ true → Every P x) → (b ≡ false → Every P y) → Every P (cond b x y)
+every-cond true f g = f refl
+every-cond false f g = g refl
+
+pub every-may-end : {A : Type 0} {P : A → Type 0} {r : Rule A} → Every P r → Every P (mayEnd r)
+every-may-end (at-gives p) = at-gives p
+every-may-end (at-field e) = at-field e
+every-may-end at-refuses = at-refuses
+every-may-end at-ends = at-ends
+
+-- ---- a field, whatever it says, or by how large a number it is
+
+pub any : {A : Type 0} {w : ℕ} {g : List ℕ → A} → Every (λ _. Unit) (number w g)
+any = at-field λ bs b l. at-gives tt
+
+module _ {order : List ℕ → ℕ} (o : Order order) where
+  pub unsigned : (w : ℕ) → Every (λ n. n < 256 ^ w) (number w order)
+  unsigned w = at-field λ bs b l. at-gives (subst (λ n. order bs < 256 ^ n) l (o bs b))
+
+  pub twos-complement : (w : ℕ) → Every (λ v. natAbs v ≤ 2 ^ (8 * w - 1)) (number w (signed order))
+  twos-complement w = at-field λ bs b l. at-gives (subst (λ n. natAbs (signed order bs) ≤ 2 ^ (8 * n - 1)) l (signed-within o bs b))
