@@ -4,9 +4,6 @@ pub mod DeltaLaws
 pub mod FidLaws
 pub mod PointLaws
 pub mod DadLaws
-pub mod Adding
-pub mod Kept
-pub mod Exactly
 pub mod UpTo
 pub mod ArrayLaws
 pub mod MsLaws

@@ -1,4 +1,3 @@
 pub mod Changes
 pub mod Streams
 pub mod Next
-pub mod Whole

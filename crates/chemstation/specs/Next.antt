@@ -9,7 +9,6 @@ use Rattle.chemstation.specs.Changes.{after}
 use Rattle.chemstation.specs.Streams.{Made, Told, fields, sumOf}
 use Rattle.chemstation.specs.declared.State.{State}
 use Rattle.chemstation.specs.declared.Record.{Record}
-use Rattle.chemstation.specs.declared.Record.the-variants.{Trace, Mass, Spectrum}
 use Rattle.chemstation.specs.declared.Delta.{Delta}
 use Rattle.chemstation.specs.declared.DeltaAt.{DeltaAt}
 use Rattle.chemstation.specs.declared.DeltaAt.the-variants as deltaAt
@@ -35,8 +34,3 @@ answerOf (Stopped z) = stops (stopOf z)
 abbrev pub deltaRead : DeltaAt → Read Delta
 deltaRead (deltaAt.Read d n) = got d n
 deltaRead (deltaAt.Stopped z) = stops (stopOf z)
-
-abbrev pub unscaledOf : Record → Float
-unscaledOf (Trace t u s) = u
-unscaledOf (Mass t m u s) = u
-unscaledOf (Spectrum t w u s) = u

@@ -23,7 +23,6 @@ ghost use Rattle.floats.specs.Wholes.{doubles, flat};
 ghost use Rattle.chemstation.specs.Changes.{changed};
 ghost use Rattle.chemstation.specs.Streams.{delta, changeOf};
 ghost use Rattle.chemstation.specs.Next.{deltaRead};
-ghost use Rattle.chemstation.specs.Whole.{ExactReadings};
 
 // Counts still due, never one for another.
 pub struct Scans(pub usize);
@@ -107,8 +106,3 @@ fn changed_by(value: f64, d: Delta) -> f64
         Delta::Absolute(z) => f64_from_i32(z),
     }
 }
-
-// Nothing to compute: the contract is the theorem that each record's unscaled intensity is the added-up value.
-pub fn exact_readings()
-    ensures { λ _. ⌜ ExactReadings ⌝ }
-{}

@@ -4,17 +4,18 @@ use mathlib.Core.Bool.{Bool}
 use mathlib.Core.List.{List, [], _∷_, foldl}
 use Prim.Native.Nat.{ℕ, suc, _^_, _≤_}
 use lib.IntN.{ℤ, pos}
-use lib.Ieee.{binary64}
+use lib.Ieee.{Float, binary64}
 use Rattle.rules.specs.Rule.{Rule, mapRule}
 use Rattle.rules.specs.Calls.{Item, readUpTo}
 use Rattle.common.specs.Bytes.{AreBytes}
 use Rattle.floats.specs.Wholes.{IsWhole, Sum, flat, doubles, wholes}
 use Rattle.chemstation.specs.Changes.{Change, clears, adds, slopes, becomes, restarts, after}
 use Rattle.chemstation.specs.Streams.{Told, double, fields, sumOf}
-use Rattle.chemstation.specs.Next.{rule, unscaledOf}
+use Rattle.chemstation.specs.Next.{rule}
 use Rattle.chemstation.specs.declared.State.{State}
 use Rattle.chemstation.specs.declared.State.the-variants.{Fid, Ms, Mwd, Dad, Uv, Array}
 use Rattle.chemstation.specs.declared.Record.{Record}
+use Rattle.chemstation.specs.declared.Record.the-variants.{Trace, Mass, Spectrum}
 
 -- ---- in whole numbers
 
@@ -88,6 +89,11 @@ Within mwd n = n ≤ 2 ^ 32
 Within dad n = Unit
 Within uv n = Unit
 Within array n = ⊥
+
+abbrev pub unscaledOf : Record → Float
+unscaledOf (Trace t u s) = u
+unscaledOf (Mass t m u s) = u
+unscaledOf (Spectrum t w u s) = u
 
 -- a record's unscaled intensity is the added-up value
 abbrev pub Exact : Kind → Record → Added → Type 0

@@ -13,24 +13,24 @@ use Rattle.common.proofs.Sizes.{Order, be-below, le-below}
 use Rattle.common.proofs.Every.{Every, at-gives, at-refuses, at-ends, every-then, every-cond, every-may-end, any, unsigned, twos-complement}
 use Rattle.floats.specs.Wholes.{IsWhole, Sum, flat, doubles, wholes}
 use Rattle.floats.proofs.Running.{sloping-step, sloping-within, restart}
 use Rattle.chemstation.specs.Changes.{Change, clears, slopes, restarts, changed, after}
 use Rattle.chemstation.specs.Streams.{Made, Told, told, isInt, delta, changeOf, widthOf, fields, sumOf}
 use Rattle.chemstation.specs.Streams.{fidMade, fidRule, msMade, msValue, msPoint, msScans, msRule, mwdPoint, mwdRule, dadPoint, dadScan, dadRule, uvPoint, uvScan, uvRule, arrayMade, stored, arrayRule}
-use Rattle.chemstation.specs.Next.{stepped, unscaledOf}
-use Rattle.chemstation.specs.Whole.{counted, summed, dueOf, Begins, Kind, fid, ms, mwd, dad, uv, array, kindOf, Within}
+use Rattle.chemstation.specs.Next.{stepped}
+use Rattle.whole.specs.Whole.{counted, summed, dueOf, Begins, Kind, fid, ms, mwd, dad, uv, array, kindOf, Within, unscaledOf}
 use Rattle.chemstation.specs.declared.chemstation.ChemstationFidState.{ChemstationFidState}
 use Rattle.chemstation.specs.declared.chemstation.ChemstationMsState.{ChemstationMsState}
 use Rattle.chemstation.specs.declared.chemstation.ChemstationMwdState.{ChemstationMwdState}
 use Rattle.chemstation.specs.declared.chemstation.ChemstationDadState.{ChemstationDadState}
 use Rattle.chemstation.specs.declared.chemstation_new.ChemstationUvState.{ChemstationUvState}
 use Rattle.chemstation.specs.declared.chemstation_new.ChemstationArrayState.{ChemstationArrayState}
 use Rattle.chemstation.specs.declared.chemstation_new.ChemstationArrayRecordType.{ChemstationArrayRecordType}
 use Rattle.chemstation.specs.declared.chemstation_new.ChemstationArrayRecordType.the-variants.{Float32Array, Float64Array}
 use Rattle.chemstation.specs.declared.Delta.{Delta}
 use Rattle.chemstation.specs.declared.Delta.the-variants.{By, Absolute}
 use Rattle.chemstation.specs.declared.State.{State}
 use Rattle.chemstation.specs.declared.State.the-variants.{Fid, Ms, Mwd, Dad, Uv, Array}
-use Rattle.chemstation.proofs.Adding.{Adds, Fair, AllFair, all-fair, adds-start, adds-all, Slopes, slopes-start}
+use Rattle.whole.proofs.Adding.{Adds, Fair, AllFair, all-fair, adds-start, adds-all, Slopes, slopes-start}
 
 -- a state's value, the added-up value and its deltas
 abbrev pub Holds : State → Sum ℤ → ℕ → Type 0
