@@ -1,0 +1,4 @@
+pub mod ColumnLaws
+pub mod Marks
+pub mod Demand3
+pub mod Fitting

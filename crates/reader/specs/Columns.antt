@@ -1,0 +1,66 @@
+-- Fill columns (document 01): four lent columns of doubles, and what they hold afterwards.
+use mathlib.Core.Path.{_≡_}
+use mathlib.Core.Bool.{Bool, cond, _&&_}
+use mathlib.Core.List.{List, _++_, map}
+use Prim.Native.Nat.{ℕ}
+use lib.Dec.{eqb}
+use lib.ListN.{length, drop}
+use lib.Ieee.{Float, binary64, ofBits}
+use Rattle.rules.specs.Rule.{Stop, refused}
+use Rattle.rules.specs.Calls.{Answer, full, stopped, Reading, nothing, readUpTo}
+use Rattle.error.specs.Number.{stopOf}
+use Rattle.chemstation.specs.Next.{rule}
+use Rattle.chemstation.specs.declared.State.{State}
+use Rattle.chemstation.specs.declared.Record.{Record}
+use Rattle.chemstation.specs.declared.Record.the-variants.{Trace, Mass, Spectrum}
+use Rattle.reader.specs.declared.Row.{Row}
+use Rattle.reader.specs.declared.Closing.{Closing}
+use Rattle.reader.specs.declared.Closing.the-variants.{Full, Stopped}
+use Rattle.reader.specs.declared.Filled.{Filled}
+
+-- 'Kinds without an axis store 0.0'
+abbrev pub rowOf : Record → Row
+rowOf (Trace t u s) = record { time = t; axis = ofBits binary64 0; unscaled = u; scaled = s }
+rowOf (Mass t m u s) = record { time = t; axis = m; unscaled = u; scaled = s }
+rowOf (Spectrum t w u s) = record { time = t; axis = w; unscaled = u; scaled = s }
+
+-- 'four lent columns of doubles (time, axis, unscaled, scaled)'
+pub record Columns : Type 0 where
+  pub time : List Float
+  pub axis : List Float
+  pub unscaled : List Float
+  pub scaled : List Float
+
+abbrev pub columns : List Float → List Float → List Float → List Float → Columns
+columns t a u s = record { time = t; axis = a; unscaled = u; scaled = s }
+
+abbrev pub equalLengths : Columns → Bool
+equalLengths c = eqb (length (c .axis)) (length (c .time)) && (eqb (length (c .unscaled)) (length (c .time)) && eqb (length (c .scaled)) (length (c .time)))
+
+-- a column: a place for each record, and 'places from the count on keep what they held'
+abbrev pub filledWith : (Row → Float) → List Record → List Float → List Float
+filledWith f rs old = map (λ r. f (rowOf r)) rs ++ drop (length rs) old
+
+abbrev pub columnsWith : List Record → Columns → Columns
+columnsWith rs old = record {
+  time = filledWith (λ r. r .time) rs (old .time);
+  axis = filledWith (λ r. r .axis) rs (old .axis);
+  unscaled = filledWith (λ r. r .unscaled) rs (old .unscaled);
+  scaled = filledWith (λ r. r .scaled) rs (old .scaled);
+}
+
+-- '15: lengths differ'; otherwise records until the columns are full
+abbrev pub fillOf : State → List ℕ → Bool → Columns → Reading State Record
+fillOf st s last old = cond (equalLengths old) (readUpTo rule last (length (old .time)) st s) (nothing st (stopped (refused 15)))
+
+abbrev pub closingOf : Closing → Answer
+closingOf Full = full
+closingOf (Stopped z) = stopped (stopOf z)
+
+-- the answer r and the columns before and after, by what is read
+pub record FilledBy (g : Reading State Record) (r : Filled) (old new : Columns) : Type 0 where
+  pub count : r .count ≡ length (g .records)
+  pub consumed : r .consumed ≡ g .consumed
+  pub state : r .state ≡ g .state
+  pub closing : closingOf (r .closing) ≡ g .closing
+  pub columns : new ≡ columnsWith (g .records) old

@@ -1,0 +1,3 @@
+pub mod Opening
+pub mod Columns
+pub mod Demand3
