@@ -21,16 +21,20 @@ is-known kind h l = rw (le-leb 1 kind h, le-leb kind 6 l) refl
 part-take : (at w n : ℕ) (s : List ℕ) → at + w ≤ n → n ≤ length s → part at w (take n s) ≡ part at w s
 part-take at w n s h l =
     let e = length-take-le n s l in
-    sym (ap (part at w) (sym (take-append-drop n s)) ∙ ap (take w) (drop-append-le at (take n s) (drop n s) (omega arith)) ∙ take-append-le w (drop at (take n s)) (drop n s) (omega (arith, length-drop at (take n s))))
+    sym (ap (part at w) (sym (take-append-drop n s))
+    ∙ ap (take w) (drop-append-le at (take n s) (drop n s) (omega arith))
+    ∙ take-append-le w (drop at (take n s)) (drop n s) (omega (arith, length-drop at (take n s))))
 
--- behind the first 268 bytes, by the size word
+-- behind the first 268 bytes, by the size word: the checks, and what is due then
+abbrev rest : ℕ → List ℕ → Rule (List ℕ)
+rest size begin = number (size - 268) (λ b. b) >>= λ b. gives (begin ++ b)
+
 abbrev sized : ℕ → ℕ → List ℕ → Rule (List ℕ)
 sized kind word begin = do
   check (ltb 0 word) 2
   check (leb 512 (sizeOf kind word)) 3
   check (leb (sizeOf kind word) 20000) 4
-  rest ← number (sizeOf kind word - 268) λ b. b
-  gives (begin ++ rest)
+  rest (sizeOf kind word) begin
 
 abbrev pub wordIn : List ℕ → ℕ
 wordIn s = be (part 264 4 s)
@@ -78,17 +82,18 @@ module _ (kind : ℕ) (last : Bool) (s : List ℕ) (e : known kind ≡ true) (h 
   size-large p l = size-stops kind last s (begins ∙ rw (passes 2 _ (lt-ltb 0 _ p), passes 3 _ (le-leb 512 (sizeIn kind s) (omega arith)), fails 4 _ (lt-leb _ 20000 l)) refl)
 
   -- the rest is due, and makes the header with the first 268 bytes
-  due : 512 ≤ sizeIn kind s → sizeIn kind s ≤ length s →
-      readAt last (number (sizeIn kind s - 268) (λ b. b) >>= λ rest. gives (take 268 s ++ rest)) 268 s ≡ got (take (sizeIn kind s) s) (sizeIn kind s)
+  due : 512 ≤ sizeIn kind s → sizeIn kind s ≤ length s → readAt last (rest (sizeIn kind s) (take 268 s)) 268 s ≡ got (take (sizeIn kind s) s) (sizeIn kind s)
   due g l =
       let z : 268 + (sizeIn kind s - 268) ≡ sizeIn kind s = omega arith in
-      at-number last _ (λ b. b) _ 268 s (omega arith) ∙ at-gives last _ _ s ∙ ap₂ got (sym (take-add 268 (sizeIn kind s - 268) s) ∙ ap (λ n. take n s) z) z
+      at-number last _ (λ b. b) _ 268 s (omega arith)
+      ∙ at-gives last _ _ s
+      ∙ ap₂ got (sym (take-add 268 (sizeIn kind s - 268) s) ∙ ap (λ n. take n s) z) z
 
-  due-cut : length s < sizeIn kind s → readAt last (number (sizeIn kind s - 268) (λ b. b) >>= λ rest. gives (take 268 s ++ rest)) 268 s ≡ stops (cut last)
+  due-cut : length s < sizeIn kind s → readAt last (rest (sizeIn kind s) (take 268 s)) 268 s ≡ stops (cut last)
   due-cut l = at-cut (more-number _ 0 (λ b. b) _ λ b. none) last 268 s h (omega arith)
 
   module _ (p : 0 < wordIn s) (g : 512 ≤ sizeIn kind s) (m : sizeIn kind s ≤ 20000) where
-    passed : read last (headerRule kind) s ≡ readAt last (number (sizeIn kind s - 268) (λ b. b) >>= λ rest. gives (take 268 s ++ rest)) 268 s
+    passed : read last (headerRule kind) s ≡ readAt last (rest (sizeIn kind s) (take 268 s)) 268 s
     passed = begins ∙ rw (passes 2 _ (lt-ltb 0 _ p), passes 3 _ (le-leb 512 _ g), passes 4 _ (le-leb _ 20000 m)) refl
 
     pub size-cut : length s < sizeIn kind s → read last (sizeRule kind) s ≡ stops (cut last)

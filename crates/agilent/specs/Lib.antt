@@ -4,4 +4,3 @@ pub mod Header
 pub mod Metadata
 pub mod Answers
 pub mod Fetch
-pub mod Specimens

@@ -23,7 +23,6 @@ ghost use Rattle.rules.specs.Rule.{stops, read, readAt};
 ghost use Rattle.error.specs.Number.{stopOf};
 ghost use Rattle.agilent.specs.Header.{sizeOf, sizeRule, sizeRead};
 ghost use Rattle.agilent.specs.Metadata.{stepOf, arrayScans, scansRule, openRule, Opens};
-ghost use Rattle.agilent.specs.Specimens.{Specimens};
 ghost use Rattle.agilent.specs.Answers.{dueRule, wholeRule};
 
 // What Size the header answers.
@@ -77,11 +76,6 @@ pub fn read_agilent_header(kind: u8, s: &[u8], last: bool) -> HeaderSize
     }
     HeaderSize::Bytes(size)
 }
-
-// Document 01's specimens, in a contract so that they cannot be left out.
-pub fn size_specimens()
-    ensures { λ _. ⌜ Specimens ⌝ }
-{}
 
 // ---- Open, as far as the header goes
 

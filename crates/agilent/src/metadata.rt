@@ -187,7 +187,7 @@ fn field_by(row: usize, start: usize, width: usize) -> TextField
 }
 
 // The field of a text, by its number less one.
-pub fn field_in(edition: u32, k: usize) -> TextField
+pub(crate) fn field_in(edition: u32, k: usize) -> TextField
     requires { ⌜ k < 8 ⌝ }
     ensures { λ r. ⌜ r ≡ fieldOf k edition ⌝ }
 {
@@ -333,7 +333,7 @@ fn said(h: &[u8], edition: u32, texts: Texts) -> ChemstationMetadata
     }
 }
 
-pub fn blank() -> ChemstationMetadata
+pub(crate) fn blank() -> ChemstationMetadata
     ensures { λ r. ⌜ r ≡ blank ⌝ }
 {
     let text_starts = [0usize; 8];
@@ -363,7 +363,7 @@ fn refused_header(r: Refusal) -> Described
 }
 
 // What a whole header says.
-pub fn from_header(h: &[u8]) -> Described
+pub(crate) fn from_header(h: &[u8]) -> Described
     requires { ⌜ 512 ≤ length (now h) ⌝ }
     ensures { λ r. ⌜ checkedRule (r .checked) (r .metadata) ≡ metadataRule (now (h .entry)) ⌝ }
 {

@@ -2,3 +2,4 @@ pub mod ColumnLaws
 pub mod Marks
 pub mod Demand3
 pub mod Fitting
+pub mod Specimens

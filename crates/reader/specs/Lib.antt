@@ -1,3 +1,4 @@
 pub mod Opening
 pub mod Columns
 pub mod Demand3
+pub mod Specimens

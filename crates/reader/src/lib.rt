@@ -28,6 +28,7 @@ ghost use Rattle.agilent.specs.Metadata.{openRule};
 ghost use Rattle.rules.specs.Rule.{refused};
 ghost use Rattle.rules.specs.Calls.{stopped, nothing, readUpTo};
 ghost use Rattle.reader.specs.Demand3.{Demand3Holds};
+ghost use Rattle.reader.specs.Specimens.{specimens, AllGive};
 ghost use Rattle.reader.specs.Columns.{rowOf, Columns, columns, fillOf, FilledBy};
 
 // What Open answers.
@@ -369,4 +370,11 @@ pub fn fill_columns(
 // Nothing to compute: the contract is demand 3, whole, cited here so that it cannot be left out.
 pub fn demand_three()
     ensures { λ _. ⌜ Demand3Holds ⌝ }
+{}
+
+// ---- specimens
+
+// Nothing to compute: the contract is that document 01's marked specimens come out as it says.
+pub fn marked_specimens()
+    ensures { λ _. ⌜ AllGive specimens ⌝ }
 {}

@@ -3,6 +3,7 @@ use mathlib.Core.Path.{_≡_, sym, ap, _∙_, subst}
 use native.Mathlib.Nat.{sub-zero}
 use lib.ListN.{take}
 use borrow.Author.Needs.{needs}
+use Rattle.rules.specs.Rule.{gives}
 use Rattle.agilent.specs.Metadata.{metadataRule, scansRule, Opens}
 use Rattle.agilent.specs.Answers.{checkedRule, dueRule}
 use Rattle.agilent.proofs.Opens.{not-described, not-counted, opened}
@@ -25,6 +26,14 @@ counted c =
     let a = f .before .before .before .args in
     c .scans-due .ensures ∙ ap (λ k. scansRule (a .kind) (f .from-header .result .metadata) (take k (a .s .now))) (sub-zero (a .n))
 
+passed : (c : tie.After-scans-due) →
+    let f = c .before .before .before .before .before in
+    let a = f .before .before .before .args in
+    gives (f .from-header .result .metadata) ≡ metadataRule (take (a .n) (a .s .now))
+passed c =
+    let f = c .before .before .before .before .before in
+    ap (λ k. checkedRule k (f .from-header .result .metadata)) (sym (c .before .before .before .enum-told .given .1)) ∙ described f
+
 returns : tie.Need-returns
 returns c last =
     let f = c .before .before .before .before in
@@ -37,18 +46,16 @@ returns-2 c last =
     let t = c .before .before .before .before in
     let f = t .before .before .before .before .before in
     let a = f .before .before .before .args in
-    let e = ap (λ k. checkedRule k (f .from-header .result .metadata)) (sym (t .before .before .before .enum-told .given .1)) ∙ described f in
     let m = ap dueRule (sym (c .before .before .r .given .1)) ∙ counted t in
-    subst (λ x. Opens (a .s .now) x (c .not-opened2 .result)) (sym (not-counted (a .kind) last (a .n) (a .s .now) _ e m)) (c .not-opened2 .ensures (a .s .now))
+    subst (λ x. Opens (a .s .now) x (c .not-opened2 .result)) (sym (not-counted (a .kind) last (a .n) (a .s .now) _ (passed t) m)) (c .not-opened2 .ensures (a .s .now))
 
 returns-3 : tie.Need-returns-3
 returns-3 c last =
     let t = c .before .before .before in
     let f = t .before .before .before .before .before in
     let a = f .before .before .before .args in
-    let e = ap (λ k. checkedRule k (f .from-header .result .metadata)) (sym (t .before .before .before .enum-told .given .1)) ∙ described f in
     let m = ap dueRule (sym (c .before .scans .given .1)) ∙ counted t in
-    record { answer = sym (opened (a .kind) last (a .n) (a .s .now) _ e m); empty = tt }
+    record { answer = sym (opened (a .kind) last (a .n) (a .s .now) _ (passed t) m); empty = tt }
 
 pub open-sized-spec : {M : Type 1} → statement M
 open-sized-spec =
