@@ -10,7 +10,7 @@ use lib.Ieee.{Float, binary32, binary64, sub, div, ofInt, ofBits}
 use Rattle.rules.specs.Rule.{Rule, gives, refuses, _>>=_, _>>_, Read, got, stops}
 use Rattle.error.specs.Number.{numberOf, stopOf}
 use Rattle.common.specs.Bytes.{be, signed, part}
-use Rattle.floats.specs.Doubles.{scanCountOf}
+use Rattle.floats.specs.Doubles.{double, scanCountOf}
 use Rattle.floats.specs.declared.ScanCount.{ScanCount}
 use Rattle.floats.specs.declared.ScanCount.the-variants.{TooMany, Count}
 use Rattle.text.specs.WhiteSpace.{trimmedOf}
@@ -69,9 +69,6 @@ textsRule e h (t ∷ ts) = do
   gives (p ∷ ps)
 
 -- ---- numbers
-
-abbrev pub double : ℕ → Float
-double n = ofInt binary64 (pos n)
 
 -- a stored double, BE
 abbrev pub doubleAt : ℕ → Float → List ℕ → Float

@@ -14,7 +14,8 @@ use Rattle.common.specs.Bytes.{le, part}
 use Rattle.common.specs.Fields.{u16, u32}
 use Rattle.floats.specs.Wholes.{doubles, flat}
 use Rattle.chemstation.specs.Changes.{Change, clears}
-use Rattle.chemstation.specs.Streams.{Told, double, dadPoint, dadScan, dadRule}
+use Rattle.floats.specs.Doubles.{double}
+use Rattle.chemstation.specs.Streams.{Told, dadPoint, dadScan, dadRule}
 use Rattle.chemstation.specs.Next.{stepped}
 use Rattle.chemstation.specs.declared.State.the-variants.{Dad}
 use Rattle.chemstation.specs.declared.chemstation.ChemstationDadState.{ChemstationDadState}

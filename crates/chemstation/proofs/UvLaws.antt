@@ -14,7 +14,8 @@ use Rattle.common.specs.Bytes.{le, part}
 use Rattle.common.specs.Fields.{u16}
 use Rattle.floats.specs.Wholes.{doubles, flat}
 use Rattle.chemstation.specs.Changes.{Change, clears}
-use Rattle.chemstation.specs.Streams.{Told, double, minutes, twentieths, uvPoint, uvScan, uvRule}
+use Rattle.floats.specs.Doubles.{double}
+use Rattle.chemstation.specs.Streams.{Told, minutes, twentieths, uvPoint, uvScan, uvRule}
 use Rattle.chemstation.specs.Next.{stepped}
 use Rattle.chemstation.specs.declared.State.the-variants.{Uv}
 use Rattle.chemstation.specs.declared.chemstation_new.ChemstationUvState.{ChemstationUvState}

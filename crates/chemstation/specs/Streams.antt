@@ -8,6 +8,7 @@ use lib.Ieee.{Float, binary32, binary64, add, sub, mul, div, ofInt, ofBits}
 use Rattle.rules.specs.Rule.{Rule, gives, refuses, ends, _>>=_, _>>_, number, skip, mayEnd, mapRule}
 use Rattle.common.specs.Bytes.{be, le}
 use Rattle.common.specs.Fields.{u16, u32, i16, i32}
+use Rattle.floats.specs.Doubles.{double}
 use Rattle.floats.specs.Wholes.{Sum, flat, doubles}
 use Rattle.chemstation.specs.Changes.{Change, clears, adds, slopes, becomes, restarts}
 use Rattle.chemstation.specs.declared.chemstation.ChemstationFidState.{ChemstationFidState}
@@ -39,9 +40,6 @@ abbrev pub told : Made → List Change → Told
 told m cs = record { does = cs; makes = m }
 
 -- ---- numbers as doubles, each operation rounded once
-
-abbrev pub double : ℕ → Float
-double n = ofInt binary64 (pos n)
 
 -- '/ 60000'
 abbrev pub minutes : ℕ → Float

@@ -26,10 +26,11 @@ ghost use lib.ListN.{length};
 ghost use Rattle.rules.specs.Rule.{got, read, readAt, mapRead};
 ghost use mathlib.Core.List.{_∷_, []};
 ghost use Rattle.chemstation.specs.Changes.{slopes, restarts};
-ghost use Rattle.chemstation.specs.Streams.{told, sumOf, fidMade, changeOf, widthOf, dadMade, dadPoint, dadScan, double, msMade, msPoint, msScans, mwdMade, mwdPoint};
+ghost use Rattle.chemstation.specs.Streams.{told, sumOf, fidMade, changeOf, widthOf, dadMade, dadPoint, dadScan, msMade, msPoint, msScans, mwdMade, mwdPoint};
 ghost use Rattle.chemstation.specs.Next.{itemOf, stepped, answerOf, rule};
 ghost use lib.Ieee.{Float};
 ghost use Rattle.common.specs.Bytes.{be, part};
+ghost use Rattle.floats.specs.Doubles.{double};
 ghost use Rattle.floats.specs.Wholes.{Sum, doubles, flat};
 
 pub struct ChemstationFidState {

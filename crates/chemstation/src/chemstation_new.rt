@@ -21,8 +21,9 @@ ghost use Prim.Native.Nat.{_+_, _-_, _/_, _≤_, _<_};
 ghost use lib.Ieee.{binary64, sub};
 ghost use lib.ListN.{length};
 ghost use Rattle.rules.specs.Rule.{got, read, readAt, mapRead};
+ghost use Rattle.floats.specs.Doubles.{double};
 ghost use Rattle.floats.specs.Wholes.{doubles, flat};
-ghost use Rattle.chemstation.specs.Streams.{double, sumOf, minutes, twentieths, uvMade, uvPoint, uvScan, told, arrayMade};
+ghost use Rattle.chemstation.specs.Streams.{sumOf, minutes, twentieths, uvMade, uvPoint, uvScan, told, arrayMade};
 ghost use Rattle.chemstation.specs.Next.{itemOf, stepped, answerOf, rule};
 
 pub struct ChemstationUvState {

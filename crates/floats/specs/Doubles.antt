@@ -1,4 +1,4 @@
--- A double's bits as they are printed, and the count of an array's scans.
+-- Whole numbers as doubles, a double's bits as they are printed, and the count of an array's scans.
 use Prim.Native.Nat.{ℕ, _+_, _^_}
 use mathlib.Core.Bool.{Bool, cond}
 use lib.IntN.{pos}
@@ -8,13 +8,17 @@ use Rattle.floats.specs.declared.Bits.the-variants.{Nan, Pattern}
 use Rattle.floats.specs.declared.ScanCount.{ScanCount}
 use Rattle.floats.specs.declared.ScanCount.the-variants.{TooMany, Count}
 
+-- a whole number as a double
+abbrev pub double : ℕ → Float
+double n = ofInt binary64 (pos n)
+
 -- document 01, the log program: 'as 16 hexadecimal digits of the bits, or `nan`'
 abbrev pub bitsOf : Float → Bits
 bitsOf x = cond (isNan x) Nan (Pattern (toBits binary64 x))
 
 -- x is n or more; a NaN is not
 abbrev pub atLeast : ℕ → Float → Bool
-atLeast n x = le (ofInt binary64 (pos n)) x
+atLeast n x = le (double n) x
 
 -- document 01, refusal 10: 'scan quotient 2^53 or more, plus infinity included'; Array: '1 plus the truncated (end − start) / step;
 -- a quotient below 1, minus infinity included, or NaN gives 1'

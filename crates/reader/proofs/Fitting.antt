@@ -16,7 +16,7 @@ use Rattle.agilent.specs.declared.metadata.ChemstationMetadata.{ChemstationMeta
 use Rattle.agilent.proofs.Orderly.{Orderly, giving, refusing, asking, proper, itself, next, then, tested, checked}
 use Rattle.agilent.proofs.Texts.{metadata}
 
-and-true : (a b : Bool) → a && b ≡ true → (a ≡ true) × (b ≡ true)
+pub and-true : (a b : Bool) → a && b ≡ true → (a ≡ true) × (b ≡ true)
 and-true true b e = (refl, e)
 and-true false b e = (e, cc)
 

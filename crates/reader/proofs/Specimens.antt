@@ -12,17 +12,14 @@ use Rattle.agilent.specs.Header.{headerRule}
 use Rattle.agilent.specs.Metadata.{blank}
 use Rattle.chemstation.specs.Streams.{delta, fidRule, msPoint, msScans, msRule, mwdPoint, mwdRule, dadPoint, dadScan, dadRule, uvPoint, uvScan, uvRule}
 use Rattle.reader.specs.Opening.{sameBytes, begins}
+use Rattle.reader.proofs.Fitting.{and-true}
 use Rattle.reader.specs.Specimens.{Specimen, answered, specimens, AllGive}
-
-and-both : (a b : Bool) → a && b ≡ true → (a ≡ true) × (b ≡ true)
-and-both true b e = (refl, e)
-and-both false b e = (e, cc)
 
 same-is : (l m : List ℕ) → sameBytes l m ≡ true → l ≡ m
 same-is [] [] e = refl
 same-is [] (b ∷ bs) e = cc
 same-is (a ∷ r) [] e = cc
-same-is (a ∷ r) (b ∷ bs) e = let p = and-both (eqb a b) (sameBytes r bs) e in ap₂ (λ x xs. x ∷ xs) (eqb-true a b (p .0)) (same-is r bs (p .1))
+same-is (a ∷ r) (b ∷ bs) e = let p = and-true (eqb a b) (sameBytes r bs) e in ap₂ (λ x xs. x ∷ xs) (eqb-true a b (p .0)) (same-is r bs (p .1))
 
 abbrev test : List Specimen → Bool
 test [] = true
@@ -30,7 +27,7 @@ test (s ∷ ss) = sameBytes (answered (s .does)) (s .answers) && test ss
 
 all-give : (ss : List Specimen) → test ss ≡ true → AllGive ss
 all-give [] e = tt
-all-give (s ∷ ss) e = let p = and-both (sameBytes (answered (s .does)) (s .answers)) (test ss) e in (same-is (answered (s .does)) (s .answers) (p .0), all-give ss (p .1))
+all-give (s ∷ ss) e = let p = and-true (sameBytes (answered (s .does)) (s .answers)) (test ss) e in (same-is (answered (s .does)) (s .answers) (p .0), all-give ss (p .1))
 
 computed : test specimens ≡ true
 unfolding specimens read _>>=_ readUpTo headerRule blank begins delta fidRule msPoint msScans msRule mwdPoint mwdRule dadPoint dadScan dadRule uvPoint uvScan uvRule add mul div sub ofInt ofBits toBits

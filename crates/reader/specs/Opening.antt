@@ -11,7 +11,7 @@ use Rattle.error.specs.Number.{stopOf}
 use Rattle.common.specs.Bytes.{part}
 use Rattle.agilent.specs.Metadata.{Header, openRule, stepOf, blank}
 use Rattle.agilent.specs.declared.metadata.ChemstationMetadata.{ChemstationMetadata}
-use Rattle.chemstation.specs.Streams.{double}
+use Rattle.floats.specs.Doubles.{double}
 use Rattle.chemstation.specs.declared.chemstation_new.ChemstationArrayRecordType.{ChemstationArrayRecordType}
 use Rattle.chemstation.specs.declared.chemstation_new.ChemstationArrayRecordType.the-variants.{Float32Array, Float64Array}
 use Rattle.chemstation.specs.declared.State.{State}

@@ -8,7 +8,7 @@ use lib.Ieee.{Float, binary64}
 use Rattle.floats.specs.Wholes.{Sum, flat, doubles, wholes}
 use Rattle.floats.proofs.Running.{Running, running-start, running-step, Sloping, sloping-start}
 use Rattle.chemstation.specs.Changes.{Change, clears, adds, slopes, becomes, restarts, changed, after}
-use Rattle.chemstation.specs.Streams.{double}
+use Rattle.floats.specs.Doubles.{double}
 use Rattle.whole.specs.Whole.{counted}
 
 -- ---- added up: MWD, DAD and UV; MS only sets

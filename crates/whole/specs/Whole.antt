@@ -10,7 +10,8 @@ use Rattle.rules.specs.Calls.{Item, readUpTo}
 use Rattle.common.specs.Bytes.{AreBytes}
 use Rattle.floats.specs.Wholes.{IsWhole, Sum, flat, doubles, wholes}
 use Rattle.chemstation.specs.Changes.{Change, clears, adds, slopes, becomes, restarts, after}
-use Rattle.chemstation.specs.Streams.{Told, double, fields, sumOf}
+use Rattle.chemstation.specs.Streams.{Told, fields, sumOf}
+use Rattle.floats.specs.Doubles.{double}
 use Rattle.chemstation.specs.Next.{rule}
 use Rattle.chemstation.specs.declared.State.{State}
 use Rattle.chemstation.specs.declared.State.the-variants.{Fid, Ms, Mwd, Dad, Uv, Array}

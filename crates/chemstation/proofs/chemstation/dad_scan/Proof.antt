@@ -3,7 +3,7 @@ use mathlib.Core.Path.{_≡_, refl, sym}
 use native.Mathlib.Omega.{arith}
 use lib.Ieee.{binary64, ofInt, ofBits}
 use borrow.Author.Needs.{needs}
-use Rattle.chemstation.specs.Streams.{double}
+use Rattle.floats.specs.Doubles.{double}
 use Rattle.chemstation.proofs.DadLaws.{dad-type-cut, dad-other, dad-head-cut, dad-none, dad-first}
 use Rattle.chemstation.proofs.chemstation.dad_scan.Statement.{statement}
 use Rattle.chemstation.proofs.chemstation.dad_scan.Tie as tie

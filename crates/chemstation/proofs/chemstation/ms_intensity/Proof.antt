@@ -2,7 +2,7 @@
 use mathlib.Core.Path.{ap, _∙_}
 use native.Mathlib.Omega.{arith}
 use borrow.Author.Needs.{needs}
-use Rattle.chemstation.specs.Streams.{double}
+use Rattle.floats.specs.Doubles.{double}
 use Rattle.chemstation.proofs.MsLaws.{shifted}
 use Rattle.chemstation.proofs.chemstation.ms_intensity.Statement.{statement}
 use Rattle.chemstation.proofs.chemstation.ms_intensity.Tie as tie
