@@ -71,7 +71,7 @@ abbrev pub changeOf : Delta → Change
 changeOf (By v) = adds v
 changeOf (Absolute z) = becomes z
 
--- ---- FID
+-- ---- FID (FORMAT 5.1)
 
 -- 'Time .. grows by 0.2 a record'
 abbrev pub fidMade : ChemstationFidState → Made
@@ -100,7 +100,7 @@ fidRule st = mayEnd do
         gives (told (fidMade st) (restarts high low ∷ [])))
       (gives (told (fidMade st) (slopes v ∷ [])))
 
--- ---- MS
+-- ---- MS (FORMAT 5.3)
 
 -- 'u16 / 20 is m/z'; 'Scaled equals unscaled'
 abbrev pub msMade : ℕ → ℕ → Float → ℕ → Made
@@ -142,7 +142,7 @@ msRule st =
     let points = st .«n_mzs_left» .0 in
     cond (eqb scans 0) ends (cond (eqb points 0) (msScans scans) (msPoint scans points (st .«cur_time»)))
 
--- ---- MWD
+-- ---- MWD (FORMAT 5.2)
 
 -- 'Time as FID'; 'Scaled as FID'; 'The value runs on over groups'
 abbrev pub mwdMade : ChemstationMwdState → ℕ → Made
@@ -173,7 +173,7 @@ mwdRule st =
       cond (eqb (group % 4096) 0) ends (mwdPoint st (group % 4096)))
     (mwdPoint st points))
 
--- ---- DAD
+-- ---- DAD (FORMAT 5.4)
 
 -- 'bytes due falls by 2, or by 6 for an absolute, not below 0'
 abbrev pub widthOf : Delta → ℕ
@@ -221,7 +221,7 @@ dadRule st =
     (cond (eqb bytes 0) (dadScan scans)
     (dadPoint scans bytes (st .«cur_time») (add binary64 (st .«cur_wv») (st .«wv_step»)) (st .«wv_step») []))
 
--- ---- UV
+-- ---- UV (FORMAT 5.5)
 
 -- 'Each point adds the step'; 'Scaled: value × multiplier, no offset'
 abbrev pub uvMade : ℕ → ℕ → Float → Float → Float → Float → Made
@@ -268,7 +268,7 @@ uvRule st =
     (cond (eqb points 0) (uvScan scans mult)
     (uvPoint (cond (eqb points 1) (scans - 1) scans) points (st .«cur_time») (st .«cur_wv») (st .«wv_step») mult []))
 
--- ---- array
+-- ---- array (FORMAT 5.6)
 
 -- 'Time .. grows before each record. Unscaled is the stored number; scaled × multiplier'; 'each record is one scan fewer'
 abbrev pub arrayMade : ChemstationArrayState → Float → Made

@@ -1,0 +1,6 @@
+-- Laws that several proofs cite.
+pub mod Puts
+pub mod Digits
+pub mod Logs
+pub mod Moves
+pub mod Cuts
