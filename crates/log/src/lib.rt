@@ -23,7 +23,7 @@ fn digit(d: u64) -> u8
     (48 + d + (d + 6) / 16 * 7) as u8
 }
 
-fn put_byte(out: &mut [u8], at: usize, b: u8) -> usize
+pub fn put_byte(out: &mut [u8], at: usize, b: u8) -> usize
     requires { ⌜ at < length (now out) ⌝ }
     ensures { λ r. ⌜ Put (b ∷ []) at (now (out .entry)) r (now (out .exit)) ⌝ }
 {
@@ -32,7 +32,7 @@ fn put_byte(out: &mut [u8], at: usize, b: u8) -> usize
 }
 
 // The last k digits of n.
-fn put_digits(out: &mut [u8], at: usize, base: u64, k: usize, n: u64) -> usize
+pub fn put_digits(out: &mut [u8], at: usize, base: u64, k: usize, n: u64) -> usize
     requires { ⌜ (at + k ≤ length (now out)) × (0 < base) × (base ≤ 16) ⌝ }
     ensures { λ r. ⌜ Put (digits base k n) at (now (out .entry)) r (now (out .exit)) ⌝ }
     ensures { λ r. ⌜ r ≡ at + k ⌝ }
@@ -61,7 +61,7 @@ fn count_places(n: u64) -> usize
 }
 
 // A number in decimal, and what ends its field.
-fn put_number(out: &mut [u8], at: usize, n: u64, sep: u8) -> usize
+pub fn put_number(out: &mut [u8], at: usize, n: u64, sep: u8) -> usize
     requires { ⌜ at + 21 ≤ length (now out) ⌝ }
     ensures { λ r. ⌜ Put (number n sep) at (now (out .entry)) r (now (out .exit)) ⌝ }
     ensures { λ r. ⌜ r ≤ at + 21 ⌝ }
@@ -72,7 +72,7 @@ fn put_number(out: &mut [u8], at: usize, n: u64, sep: u8) -> usize
 }
 
 // A double's bits, or nan, and what ends the field.
-fn put_double(out: &mut [u8], at: usize, x: f64, sep: u8) -> usize
+pub fn put_double(out: &mut [u8], at: usize, x: f64, sep: u8) -> usize
     requires { ⌜ at + 17 ≤ length (now out) ⌝ }
     ensures { λ r. ⌜ Put (double x sep) at (now (out .entry)) r (now (out .exit)) ⌝ }
     ensures { λ r. ⌜ r ≤ at + 17 ⌝ }
@@ -92,7 +92,7 @@ fn put_double(out: &mut [u8], at: usize, x: f64, sep: u8) -> usize
 }
 
 // A line's letter.
-fn put_letter(out: &mut [u8], at: usize, b: u8) -> usize
+pub fn put_letter(out: &mut [u8], at: usize, b: u8) -> usize
     requires { ⌜ at + 2 ≤ length (now out) ⌝ }
     ensures { λ r. ⌜ Put (b ∷ 32 ∷ []) at (now (out .entry)) r (now (out .exit)) ⌝ }
 {

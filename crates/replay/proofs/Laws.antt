@@ -1,0 +1,41 @@
+-- What is opened and fetched lies within the bytes that were lent.
+use mathlib.Core.Path.{_≡_, refl, sym, ap, _∙_}
+use mathlib.Core.Bool.{Bool, true, false, cond}
+use mathlib.Core.List.{List}
+use Prim.Native.Nat.{ℕ, _≤_}
+use native.Mathlib.Omega.{arith}
+use lib.Dec.{leb}
+use lib.ListN.{length}
+use borrow.Author.Tests.{leb-true}
+use Rattle.rules.specs.Rule.{Read, got, stops, read, mapRead}
+use Rattle.rules.proofs.Laws.{got≢stops, taken-within}
+use Rattle.agilent.specs.Metadata.{Header, openRule}
+use Rattle.agilent.specs.Fetch.{wrote, refuse, fetched, outcomeOf, Fetches}
+use Rattle.agilent.specs.declared.metadata.Fetched.{Fetched}
+use Rattle.agilent.specs.declared.metadata.Fetched.the-variants.{Text}
+use Rattle.chemstation.specs.declared.State.{State}
+use Rattle.reader.specs.Opening.{begins, startRead, OpensRun}
+use Rattle.reader.specs.declared.Opening.the-variants.{Run}
+use Rattle.reader.specs.declared.OpenedRun.{OpenedRun}
+
+-- a text is written, or there is a refusal
+wrote≢refuse : {n c : ℕ} → ¬ (wrote n ≡ refuse c)
+wrote≢refuse e = let o : _≡_ {A = ℕ} 0 1 = cc in omega arith
+
+pub fetched-inside : (r : Fetched) (n : ℕ) (old new : List ℕ) (x : Read (List ℕ)) → Fetches r old new x → r ≡ Text n → n ≤ length old
+fetched-inside r n old new x f e = by x (ap outcomeOf (sym e) ∙ f .answer)
+  where
+    told : (t : List ℕ) (b : Bool) → leb (length t) (length old) ≡ b → wrote n ≡ cond b (wrote (length t)) (refuse 15) → n ≤ length old
+    told t true h q = let same : n ≡ length t = cc in omega (arith, leb-true (length t) (length old) h)
+    told t false h q = absurd (wrote≢refuse q)
+
+    by : (x : Read (List ℕ)) → wrote n ≡ fetched (length old) x → n ≤ length old
+    by (got t k) q = told t (leb (length t) (length old)) refl q
+    by (stops z) q = absurd (wrote≢refuse q)
+
+pub opened-inside : (kind : ℕ) (last : Bool) (s : List ℕ) (r : OpenedRun) (st : State) (n : ℕ) → OpensRun kind (read last (openRule kind) s) r → r .answer ≡ Run st n → n ≤ length s
+opened-inside kind last s r st n o e = by (read last (openRule kind) s) refl (ap startRead (sym e) ∙ o .state)
+  where
+    by : (x : Read Header) → read last (openRule kind) s ≡ x → got st n ≡ mapRead (begins kind) x → n ≤ length s
+    by (got h k) q p = let same : n ≡ k = cc in omega (arith, taken-within last (openRule kind) s q)
+    by (stops z) q p = absurd (got≢stops p)
