@@ -1,9 +1,9 @@
 -- The log's text: document 01, 'The log program'. Lines are lists of bytes, in ASCII.
-use Prim.Native.Nat.{ℕ, zero, suc, _+_, _/_, _%_, _≤_}
+use Prim.Native.Nat.{ℕ, zero, suc, _+_, _-_, _/_, _%_, _≤_}
 use mathlib.Core.Path.{_≡_}
-use mathlib.Core.Bool.{cond}
+use mathlib.Core.Bool.{cond, _&&_}
 use mathlib.Core.List.{List, [], _∷_, _++_}
-use lib.Dec.{ltb}
+use lib.Dec.{leb, ltb}
 use lib.Ieee.{Float}
 use lib.ListN.{length, take, drop}
 use Rattle.rules.specs.Rule.{Stop, refused, finished, moreBytes}
@@ -12,6 +12,12 @@ use Rattle.floats.specs.declared.Bits.{Bits}
 use Rattle.floats.specs.declared.Bits.the-variants.{Nan, Pattern}
 use Rattle.chemstation.specs.declared.Record.{Record}
 use Rattle.chemstation.specs.declared.Record.the-variants.{Trace, Mass, Spectrum}
+
+-- ---- the kind
+
+-- 'one kind digit': the kind that a byte names; there is no kind 0, which is what any other byte names
+abbrev pub kindOf : ℕ → ℕ
+kindOf b = cond (leb 48 b && leb b 57) (b - 48) 0
 
 -- ---- numbers
 
@@ -23,6 +29,11 @@ digit d = cond (ltb d 10) (48 + d) (55 + d)
 abbrev pub digits : ℕ → ℕ → ℕ → List ℕ
 digits b zero n = []
 digits b (suc k) n = digits b k (n / b) ++ (digit (n % b) ∷ [])
+
+-- the k bytes of a number, little-endian
+abbrev pub bytesOf : ℕ → ℕ → List ℕ
+bytesOf zero n = []
+bytesOf (suc k) n = n % 256 ∷ bytesOf k (n / 256)
 
 -- the count of a number's decimal digits, at most one more than `others`
 abbrev pub places : ℕ → ℕ → ℕ

@@ -5,17 +5,31 @@ use chemstation::State;
 use error::Stopped;
 use floats::Bits;
 use reader::Closing;
-ghost use Prim.Native.Nat.{_+_, _-_, _≤_, _<_};
+ghost use Prim.Native.Nat.{_+_, _-_, _^_, _≤_, _<_};
 ghost use mathlib.Core.Path.{_≡_};
 ghost use mathlib.Core.List.{[], _∷_, _++_};
 ghost use lib.ListN.{length, take, drop};
+ghost use Rattle.common.specs.Bytes.{le};
 ghost use Rattle.error.specs.Number.{stopOf};
 ghost use Rattle.log.specs.Text.{Put, places, timeText, valuesText, pointLine, recordLine, headerLine, answerText, endLine};
-ghost use Rattle.log.specs.Text.{digit as digitOf, digits, double, number};
+ghost use Rattle.log.specs.Text.{kindOf, digit as digitOf, digits, bytesOf, double, number};
 ghost use Rattle.log.specs.Runs.{LoggedBy};
 ghost use Rattle.log.specs.Parts.{AnyCut};
 
-// A digit below 16, upper case. There is no branch: the text of a log is mostly digits.
+// The kind that a digit names, or 0, which is no kind.
+pub fn kind_of(digit: u8) -> u8
+    ensures { λ k. ⌜ k ≡ kindOf digit ⌝ }
+{
+    if digit < b'0' {
+        return 0;
+    }
+    if digit > b'9' {
+        return 0;
+    }
+    digit - b'0'
+}
+
+// A digit below 16, upper case, without a branch.
 fn digit(d: u64) -> u8
     requires { ⌜ d < 16 ⌝ }
     ensures { λ r. ⌜ r ≡ digitOf d ⌝ }
@@ -71,6 +85,49 @@ pub fn put_number(out: &mut [u8], at: usize, n: u64, sep: u8) -> usize
     put_byte(out, a, sep)
 }
 
+// Eight hexadecimal digits as the bytes of a word, the first in its lowest. A log is mostly such digits, so all are made at
+// once: n is parted into halves of four digits, these into halves of two, and these into digits, each in a field of its own.
+fn hex_word(n: u64) -> u64
+    requires { ⌜ n < 2 ^ 32 ⌝ }
+    ensures { λ r. ⌜ r ≡ le (digits 16 8 n) ⌝ }
+{
+    let fours = n % 0x1_0000 * 0x1_0000_0000 + n / 0x1_0000;
+    let twos = (fours & 0xFF_0000_00FF) * 0x1_0000 + (fours / 0x100 & 0xFF_0000_00FF);
+    let ones = (twos & 0xF_000F_000F_000F) * 0x100 + (twos / 0x10 & 0xF_000F_000F_000F);
+    // 1 for each digit above 9
+    let above = (ones + 0x0606_0606_0606_0606) / 0x10 & 0x0101_0101_0101_0101;
+    ones + 0x3030_3030_3030_3030 + above * 7
+}
+
+// The bytes of a word, the lowest first.
+fn put_word(out: &mut [u8], at: usize, n: u64) -> usize
+    requires { ⌜ at + 8 ≤ length (now out) ⌝ }
+    ensures { λ r. ⌜ Put (bytesOf 8 n) at (now (out .entry)) r (now (out .exit)) ⌝ }
+    ensures { λ r. ⌜ r ≡ at + 8 ⌝ }
+{
+    let mut a = at;
+    let mut rest = n;
+    let mut left: usize = 8;
+    while left > 0 {
+        a = put_byte(out, a, (rest % 256) as u8);
+        rest /= 256;
+        left -= 1;
+    }
+    a
+}
+
+// The 16 hexadecimal digits of n.
+pub fn put_bits(out: &mut [u8], at: usize, n: u64) -> usize
+    requires { ⌜ at + 16 ≤ length (now out) ⌝ }
+    ensures { λ r. ⌜ Put (digits 16 16 n) at (now (out .entry)) r (now (out .exit)) ⌝ }
+    ensures { λ r. ⌜ r ≡ at + 16 ⌝ }
+{
+    let upper = hex_word(n / 0x1_0000_0000);
+    let lower = hex_word(n % 0x1_0000_0000);
+    let a = put_word(out, at, upper);
+    put_word(out, a, lower)
+}
+
 // A double's bits, or nan, and what ends the field.
 pub fn put_double(out: &mut [u8], at: usize, x: f64, sep: u8) -> usize
     requires { ⌜ at + 17 ≤ length (now out) ⌝ }
@@ -79,7 +136,7 @@ pub fn put_double(out: &mut [u8], at: usize, x: f64, sep: u8) -> usize
 {
     match floats::f64_to_bits(x) {
         Bits::Pattern(n) => {
-            let a = put_digits(out, at, 16, 16, n);
+            let a = put_bits(out, at, n);
             put_byte(out, a, sep)
         }
         Bits::Nan => {

@@ -324,17 +324,6 @@ fn finish(e: Ended, out: &mut [u8])
     }
 }
 
-// The kind that a digit names; there is no kind 0.
-fn kind_of(digit: u8) -> u8 {
-    if digit < b'0' {
-        return 0;
-    }
-    if digit > b'9' {
-        return 0;
-    }
-    digit - b'0'
-}
-
 // The whole program. A read that fails, or a write, is told on standard error.
 pub fn log_input(buf: &mut [u8], out: &mut [u8])
     requires { ⌜ 44 ≤ length (now out) ⌝ }
@@ -345,7 +334,7 @@ pub fn log_input(buf: &mut [u8], out: &mut [u8])
         os::fail(b"chemlog: standard input");
         return;
     }
-    let kind = kind_of(digit[0]);
+    let kind = log::kind_of(digit[0]);
     let e = run(kind, buf, out);
     finish(e, out);
 }

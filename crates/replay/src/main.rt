@@ -178,17 +178,6 @@ fn log_case(kind: u8, s: &[u8], last: bool, out: &mut [u8], at: usize) -> usize
 
 // ---- cases
 
-// The kind that a digit names; there is no kind 0.
-fn kind_of(digit: u8) -> u8 {
-    if digit < b'0' {
-        return 0;
-    }
-    if digit > b'9' {
-        return 0;
-    }
-    digit - b'0'
-}
-
 // A case in the mode of its letter.
 fn answer(mode: u8, kind: u8, s: &[u8], out: &mut [u8], at: usize) -> usize
     requires { ⌜ (at + 4096 ≤ length (now out)) × (32768 ≤ length (now out)) ⌝ }
@@ -212,7 +201,7 @@ fn fetch_case(s: &[u8], out: &mut [u8], at: usize) -> usize
     }
     let mut lent = [0u8; 1024];
     let n = wide(s[1]) as usize;
-    put_text(kind_of(s[2]), s[0], &s[3..], &mut lent[0..n], out, at)
+    put_text(log::kind_of(s[2]), s[0], &s[3..], &mut lent[0..n], out, at)
 }
 
 // The case of a frame: a letter, a kind digit that may be missing, and the file.
@@ -232,7 +221,7 @@ fn put_case(s: &[u8], number: u64, out: &mut [u8], at: usize) -> usize
     if s.len() == 1 {
         return answer(s[0], 0, b"", out, c);
     }
-    answer(s[0], kind_of(s[1]), &s[2..], out, c)
+    answer(s[0], log::kind_of(s[1]), &s[2..], out, c)
 }
 
 // ---- input

@@ -10,7 +10,7 @@ returns : tie.Need-returns
 unfolding bitsText
 returns c =
     let is = sym (c .before .before .before .before .before .before .before .before .before .n .given .1) ∙ c .before .before .before .before .before .before .before .before .before .before .before .f64-to-bits .ensures in
-    (put-as (ap (λ b. field (bitsText b) (c .before .before .before .before .before .before .before .before .before .before .before .before .before .args .sep)) is) (put-then (c .before .before .before .before .before .before .put-digits .ensures .0) (c .before .before .put-byte .ensures)), search needs)
+    (put-as (ap (λ b. field (bitsText b) (c .before .before .before .before .before .before .before .before .before .before .before .before .before .args .sep)) is) (put-then (c .before .before .before .before .before .before .put-bits .ensures .0) (c .before .before .put-byte .ensures)), search needs)
 
 returns-2 : tie.Need-returns-2
 unfolding bitsText
