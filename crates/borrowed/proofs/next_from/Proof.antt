@@ -61,7 +61,7 @@ use Rattle.chemstation.proofs.Next.Laws as N′
 use Rattle.borrowed.specs.Borrowed.{takenBy, unread}
 use Rattle.borrowed.specs.declared.NextAt.{NextAt}
 use Rattle.borrowed.specs.declared.Reader.{Reader}
-use Rattle.borrowed.proofs.Values.{val, tells, next-at, slice, reader, held, bytes-in, position-in}
+use Rattle.borrowed.proofs.Values.{val, tells, next-at, slice, reader, held, bytes-in, position-in, vals, type-in, typed-state, typed-at}
 use Rattle.borrowed.proofs.NextAt as Q
 use Rattle.borrowed.proofs.NextAt.Laws as Q′
 use Rattle.borrowed.proofs.Reader as T
@@ -90,21 +90,12 @@ behind = plain (λ κs. T.the-row (namedLft 2 1 tt κs))
 abbrev stayed : Stays (fn.ended .signature .params) (fn.ended .kept)
 stayed = (stay-ref (0 ∷ []) tt behind, (stay-none (λ _. S.the-row) yes, (stay-none (λ _. bool) yes, tt)))
 
-abbrev vals : State → List Val
-vals st = val st ∷ []
-
 -- the types as the body has them, each fact of one computed once
 abbrev at-table : RattleType → Ty
-at-table R = spell body.table (pointee (R .written))
-
-typed-state : {M : Type 1} (𝓤 : URA M) (H : Heap 𝓤) (A : Atoms 𝓤) → Given 𝓤 H A → (st : State) (u : Val) → Is S.the-row st (u ∷ []) → Holds (hasTy (at-table S.the-row) u) × WT u
-typed-state 𝓤 H A W st u is = EL.lawful S.the-type S′.the-laws 𝓤 H A W tt .typed st _ is .0
+at-table = type-in body.table
 
 typed-next : {M : Type 1} (𝓤 : URA M) (H : Heap 𝓤) (A : Atoms 𝓤) → Given 𝓤 H A → (x : Next) (u : Val) → Is N.the-row x (u ∷ []) → Holds (hasTy (at-table N.the-row) u) × WT u
 typed-next 𝓤 H A W x u is = EL.lawful N.the-type N′.the-laws 𝓤 H A W tt .typed x _ is .0
-
-typed-at : {M : Type 1} (𝓤 : URA M) (H : Heap 𝓤) (A : Atoms 𝓤) → Given 𝓤 H A → (r : NextAt) (u : Val) → Is Q.the-row r (u ∷ []) → Holds (hasTy (at-table Q.the-row) u) × WT u
-typed-at 𝓤 H A W r u is = LL.lawful Q.the-type Q′.the-laws 𝓤 H A W .typed r _ is .0
 
 field-next : fieldOf (at-table Q.the-row) 0 ≡ some (at-table N.the-row, 0)
 field-next = refl
@@ -218,7 +209,7 @@ module _ {M : Type 1} (𝓤 : URA M) (H : Heap 𝓤) (A : Atoms 𝓤) (W : Given
     walk =
         qed W ((‵ (flft κ q) ⊛ ‵ (flft κ′ q′) ⊛ ‵ ftrue) ∷ ‵ (owns (MutRef (named 0) κ (B κ′) ∷ S.the-row ∷ bool ∷ []) a at) ∷ []) ∵ enter ! C Λ code.function (vptr b o ∷ val st ∷ vbool last ∷ []) _ $
         alloc1 ! (λ l₀. alloc1 ! (λ l₁. alloc1 ! (λ l₂. alloc1 ! (λ l₃. alloc1 ! (λ l₄. alloc1 ! (λ l₅. alloc1 ! (λ l₆. alloc0 ! $ params1 ! $
-        pass1 ! (init ! 10 refl (tt, tt)) $ pass1 ! (init ! 8 refl (typed-state 𝓤 H A W st _ is-st)) $ pass1 ! (init ! 6 refl (tt, tt)) $ pass0 ! $
+        pass1 ! (init ! 10 refl (tt, tt)) $ pass1 ! (init ! 8 refl (typed-state 𝓤 H A W (at-table S.the-row) refl st _ is-st)) $ pass1 ! (init ! 6 refl (tt, tt)) $ pass0 ! $
         -- the borrow is opened
         move ! (15 ∷ []) $ fsplit ! $ fsplit3 ! $ drop ! $ move ! (17 ∷ []) $ split ! $ move ! (2 ∷ 3 ∷ 0 ∷ []) $
         opens ! tt (B κ′) {h = h} b o (λ vs. spelt ! (B κ′) (Is (B κ′)) (shows 𝓤 H A (B κ′)) (LL.vals D L) (LL.tells D L) fullShare h vs b o $
@@ -237,7 +228,7 @@ module _ {M : Type 1} (𝓤 : URA M) (H : Heap 𝓤) (A : Atoms 𝓤) (W : Given
         calls-at ! fm (StepC 𝓤 H A at-mem run) known to (and-then ! (load ! (from ! (stop !)) (look ! 15 refl)) (and-then ! (load ! (from ! (stop !)) (look ! 9 refl)) (and-then ! (load ! (from ! (stop !)) (look ! 7 refl)) (and-then ! (load ! (from ! (stop !)) (look ! 13 refl)) (no-more !))))) (λ u.
         answers-plain ! tt Q.the-row (‵ (flft κ′ q′) ⊛ ‵ ftrue) u (ensured 𝓤 H A step.ended (step.clauses 𝓤 H A at-mem run) (κ′, tt) to-args tt) Said (λ r. said 𝓤 H A step.ended (step.clauses 𝓤 H A at-mem run) (κ′, tt) to-args tt r (Said r) (λ _. id⊢ 𝓤 _)) (λ r e is-r.
         -- [the token of 'a; what the reader owns; its cell; the open borrow; obs; auth; what st and last own; _6 (7); …]
-        land ! (from ! (stop !)) (init ! 11 refl (typed-at 𝓤 H A W r _ is-r)) $ rewrite ! 11 (λ (y : Val). ‵ (fat fullShare (at-table Q.the-row) l₄ 0 y)) (next-at r u is-r .is) refl $
+        land ! (from ! (stop !)) (init ! 11 refl (typed-at 𝓤 H A W (at-table Q.the-row) refl r _ is-r)) $ rewrite ! 11 (λ (y : Val). ‵ (fat fullShare (at-table Q.the-row) l₄ 0 y)) (next-at r u is-r .is) refl $
         assigns ! (of-opd ! (load ! (from ! (fld ! field-at (stop !))) (look-in ! 11 (at-in ! l₄ (next-at r u is-r .next) (vint w64 (r .at)))))) (from ! (hop ! (look ! 17 refl) (fld ! (field-position κ′) (stop !)))) (store-in ! 2 (position-in ! erased b o v (vint w64 (h .at))) (tt, record { fits = next-at r u is-r .fits })) $
         assigns ! (of-opd ! (load ! (from ! (fld ! field-next (stop !))) (look-in ! 11 (next-in ! l₄ (next-at r u is-r .next) (vint w64 (r .at)))))) (from ! (stop !)) (init ! 19 refl (typed-next 𝓤 H A W (r .next) _ (next-at r u is-r .of-next))) $
         -- the borrow is closed at the reader moved

@@ -52,7 +52,7 @@ use Rattle.chemstation.proofs.State.Laws as S′
 use Rattle.borrowed.specs.Borrowed.{takenBy, unread}
 use Rattle.borrowed.specs.declared.NextAt.{NextAt}
 use Rattle.borrowed.specs.declared.Reader.{Reader}
-use Rattle.borrowed.proofs.Values.{val, tells}
+use Rattle.borrowed.proofs.Values.{val, tells, vals, type-in, typed-state, typed-at}
 use Rattle.borrowed.proofs.NextAt as Q
 use Rattle.borrowed.proofs.NextAt.Laws as Q′
 use Rattle.borrowed.proofs.Reader as T
@@ -71,21 +71,12 @@ use Rattle.borrowed.proofs.next_of.Code.Mir as body
 abbrev B : Lfts 1 → RattleType
 B κs = T.the-row (namedLft 1 0 tt κs)
 
-abbrev vals : State → List Val
-vals st = val st ∷ []
-
 abbrev stayed : Stays (fn.ended .signature .params) (fn.ended .kept)
 stayed = (stay-none (λ _. S.the-row) yes, (stay-none-slice (0 ∷ []) tt (plain (λ _. u8)) yes, (stay-none (λ _. usize) yes, (stay-none (λ _. bool) yes, tt))))
 
 -- the types as the body has them, each fact of one computed once
 abbrev at-table : RattleType → Ty
-at-table R = spell body.table (pointee (R .written))
-
-typed-state : {M : Type 1} (𝓤 : URA M) (H : Heap 𝓤) (A : Atoms 𝓤) → Given 𝓤 H A → (st : State) (u : Val) → Is S.the-row st (u ∷ []) → Holds (hasTy (at-table S.the-row) u) × WT u
-typed-state 𝓤 H A W st u is = EL.lawful S.the-type S′.the-laws 𝓤 H A W tt .typed st _ is .0
-
-typed-at : {M : Type 1} (𝓤 : URA M) (H : Heap 𝓤) (A : Atoms 𝓤) → Given 𝓤 H A → (r : NextAt) (u : Val) → Is Q.the-row r (u ∷ []) → Holds (hasTy (at-table Q.the-row) u) × WT u
-typed-at 𝓤 H A W r u is = LL.lawful Q.the-type Q′.the-laws 𝓤 H A W .typed r _ is .0
+at-table = type-in body.table
 
 -- the contract that the proof cites
 abbrev StepC : {M : Type 1} (𝓤 : URA M) (H : Heap 𝓤) (A : Atoms 𝓤) (mem : Memory → SProp 𝓤) (run : Routine → Fun 𝓤) → Contract 𝓤
@@ -146,7 +137,7 @@ module _ {M : Type 1} (𝓤 : URA M) (H : Heap 𝓤) (A : Atoms 𝓤) (W : Given
     walk p =
         qed W ((‵ (flft κ q) ⊛ ‵ ftrue) ∷ ‵ (owns (S.the-row ∷ ShrSlice (named 0) κ u8 ∷ usize ∷ bool ∷ []) a at) ∷ []) ∵ enter ! C Λ code.function (val st ∷ v ∷ vint w64 n ∷ vbool last ∷ []) _ $
         alloc1 ! (λ l₀. alloc1 ! (λ l₁. alloc1 ! (λ l₂. alloc1 ! (λ l₃. alloc1 ! (λ l₄. alloc1 ! (λ l₅. alloc0 ! $ params1 ! $
-        pass1 ! (init ! 8 refl (typed-state 𝓤 H A W st _ is-st)) $ pass1 ! (init ! 6 refl (shr-slice-lawful 𝓤 H A W (named 0) κ u8 .typed s (v ∷ []) p .0)) $ pass1 ! (init ! 4 refl (tt, record { fits = fits })) $ pass1 ! (init ! 2 refl (tt, tt)) $ pass0 ! $
+        pass1 ! (init ! 8 refl (typed-state 𝓤 H A W (at-table S.the-row) refl st _ is-st)) $ pass1 ! (init ! 6 refl (shr-slice-lawful 𝓤 H A W (named 0) κ u8 .typed s (v ∷ []) p .0)) $ pass1 ! (init ! 4 refl (tt, record { fits = fits })) $ pass1 ! (init ! 2 refl (tt, tt)) $ pass0 ! $
         assigns ! (agg ! (and-then ! (load ! (from ! (stop !)) (look ! 6 refl)) (and-then ! (load ! (from ! (stop !)) (look ! 4 refl)) (no-more !)))) (from ! (stop !)) (init ! 0 refl (tt, (shr-slice-lawful 𝓤 H A W (named 0) κ u8 .typed s (v ∷ []) p .0 .1, (record { fits = fits }, tt)))) $
         -- what s owns is had twice; of the one copy and the position's facts is what the reader owns
         move ! (13 ∷ []) $ fsplit ! $ drop ! $ fsplit ! $ move ! (1 ∷ []) $ drop ! $ use1 W (‵ Own ⊛ ‵ Own) (shr-slice-copy 𝓤 H A W (named 0) κ u8 .twice s (v ∷ [])) $ split ! $
@@ -157,7 +148,7 @@ module _ {M : Type 1} (𝓤 : URA M) (H : Heap 𝓤) (A : Atoms 𝓤) (W : Given
         calls-at ! fm (StepC 𝓤 H A mem run) known to (and-then ! (load ! (from ! (stop !)) (look ! 2 refl)) (and-then ! (load ! (from ! (stop !)) (look ! 10 refl)) (and-then ! (load ! (from ! (stop !)) (look ! 4 refl)) (no-more !)))) (λ u.
         answers-plain ! tt Q.the-row (‵ (flft κ q) ⊛ ‵ ftrue) u (ensured 𝓤 H A step.ended (step.clauses 𝓤 H A mem run) (κ, tt) to-args tt) Said (λ r. said 𝓤 H A step.ended (step.clauses 𝓤 H A mem run) (κ, tt) to-args tt r (Said r) (λ _. id⊢ 𝓤 _)) (λ r e is-r.
         -- [the token; what s owns; _5 (2); …; room for _0 (12); …]
-        land ! (from ! (stop !)) (init ! 12 refl (typed-at 𝓤 H A W r _ is-r)) $
+        land ! (from ! (stop !)) (init ! 12 refl (typed-at 𝓤 H A W (at-table Q.the-row) refl r _ is-r)) $
         returns ! (look ! 12 refl) $ forget ! 2 refl $ forget ! 4 refl $ forget ! 6 refl $ forget ! 8 refl $ forget ! 10 refl $ forget ! 12 refl $
         move ! (12 ∷ 13 ∷ []) $ free1 ! $ move ! (10 ∷ 11 ∷ []) $ free1 ! $ move ! (8 ∷ 9 ∷ []) $ free1 ! $ move ! (6 ∷ 7 ∷ []) $ free1 ! $ move ! (4 ∷ 5 ∷ []) $ free1 ! $ move ! (2 ∷ 3 ∷ []) $ free1 ! $ free0 ! $ by ! (exits r u e is-r)))))))))
 

@@ -47,7 +47,7 @@ use denote.Triple.Table.{entered, cited}
 use denote.Triple.Walked.{says, Stays, stay-ref, stay-none, stay-none-slice, walkOf, AllGo, goes-ref, goes-none, goes-none-slice, Walks, ends-at, walked, walk-meets}
 use denote.Exit.{yes}
 use Rattle.walks.proofs.Calls.{said, answers-plain, hands, made}
-use Rattle.borrowed.proofs.Values.{val, tells, stepped}
+use Rattle.borrowed.proofs.Values.{val, tells, stepped, vals, type-in, typed-state}
 use Rattle.chemstation.specs.declared.State.{State}
 use Rattle.borrowed.specs.declared.Given.{Given as Handed}
 use Rattle.borrowed.specs.Borrowed.{givenOf as handedOf, shownBy, stateBy}
@@ -71,15 +71,9 @@ use Rattle.borrowed.proofs.next_record_mut.Code.Mir as body
 abbrev stayed : Stays (fn.ended .signature .params) (fn.ended .kept)
 stayed = (stay-ref (0 ∷ []) tt (plain (λ _. S.the-row)), (stay-none-slice (1 ∷ []) tt (plain (λ _. u8)) yes, (stay-none (λ _. bool) yes, tt)))
 
-abbrev vals : State → List Val
-vals st = val st ∷ []
-
 -- the types as the body has them, each fact of one computed once
 abbrev at-table : RattleType → Ty
-at-table R = spell body.table (pointee (R .written))
-
-typed-state : {M : Type 1} (𝓤 : URA M) (H : Heap 𝓤) (A : Atoms 𝓤) → Given 𝓤 H A → (st : State) (u : Val) → Is S.the-row st (u ∷ []) → Holds (hasTy (at-table S.the-row) u) × WT u
-typed-state 𝓤 H A W st u is = EL.lawful S.the-type S′.the-laws 𝓤 H A W tt .typed st _ is .0
+at-table = type-in body.table
 
 typed-given : {M : Type 1} (𝓤 : URA M) (H : Heap 𝓤) (A : Atoms 𝓤) → Given 𝓤 H A → (g : Handed) (u : Val) → Is G.the-row g (u ∷ []) → Holds (hasTy (at-table G.the-row) u) × WT u
 typed-given 𝓤 H A W g u is = EL.lawful G.the-type G′.the-laws 𝓤 H A W tt .typed g _ is .0
@@ -161,7 +155,7 @@ module _ {M : Type 1} (𝓤 : URA M) (H : Heap 𝓤) (A : Atoms 𝓤) (W : Given
         opens ! tt S.the-row {h = h} b o (λ vs. spelt ! S.the-row (Is S.the-row) (shows 𝓤 H A S.the-row) vals tells fullShare h vs b o $
         move ! (1 ∷ []) $ peeks ! S.the-row (Is S.the-row) (shows 𝓤 H A S.the-row) h (vals h) (λ is. drop ! $
         -- [the state's cell; the open borrow; obs; auth; the token of s; what s and last own; _5 (6); …; _4 (8); …; _3 (10); …; _2 (12); …; _1 (14); …; room for _0 (16); …]
-        assigns ! (of-opd ! (load ! (from ! (hop ! (look ! 14 refl) (stop !))) (look-raw ! 0 refl))) (from ! (stop !)) (init ! 6 refl (typed-state 𝓤 H A W h _ is)) $
+        assigns ! (of-opd ! (load ! (from ! (hop ! (look ! 14 refl) (stop !))) (look-raw ! 0 refl))) (from ! (stop !)) (init ! 6 refl (typed-state 𝓤 H A W (at-table S.the-row) refl h _ is)) $
         move ! (5 ∷ []) $ fsplit ! $ use1 W (‵ OwnS ⊛ ‵ OwnS) (shr-slice-copy 𝓤 H A W (named 1) κ′ u8 .twice s (v ∷ [])) $ split ! $ move ! (0 ∷ 2 ∷ []) $ fjoin ! $ made ! S.the-type S′.the-plain h _ is $ fjoin ! $
         -- [what the callee's parameters own; what s owns; the state's cell; the open borrow; obs; auth; the token of s; _5 (7); …]
         move ! (6 ∷ 0 ∷ []) $ hands ! (‵ (flft κ′ q′) ⊛ ‵ ftrue) (‵ (owns (S.the-row ∷ ShrSlice (named 0) κ′ u8 ∷ bool ∷ []) (h, (s, (last, tt))) (vals h, (v ∷ [], (vbool last ∷ [], tt))))) $
@@ -169,7 +163,7 @@ module _ {M : Type 1} (𝓤 : URA M) (H : Heap 𝓤) (A : Atoms 𝓤) (W : Given
         answers-plain ! tt P.the-row (‵ (flft κ′ q′) ⊛ ‵ ftrue) u (ensured 𝓤 H A step.ended (step.clauses 𝓤 H A at-mem run) (κ′, tt) (h, (s, (last, tt))) tt) (λ (r : Stepped). Said (r .given) (r .state)) (λ r. said 𝓤 H A step.ended (step.clauses 𝓤 H A at-mem run) (κ′, tt) (h, (s, (last, tt))) tt r (Said (r .given) (r .state)) (λ _. id⊢ 𝓤 _)) (λ r e is-r.
         -- [the token of s; what s owns; the state's cell; the open borrow; obs; auth; _5 (6); …]: the struct's machine value is spelled out
         land ! (from ! (stop !)) (init ! 8 refl (typed-stepped 𝓤 H A W r _ is-r)) $ rewrite ! 8 (λ (y : Val). ‵ (fat fullShare (at-table P.the-row) l₄ 0 y)) (stepped r u is-r .is) refl $
-        assigns ! (of-opd ! (load ! (from ! (fld ! field-state (stop !))) (look-in ! 8 (state-in ! l₄ (stepped r u is-r .given) (stepped r u is-r .state))))) (from ! (hop ! (look ! 14 refl) (stop !))) (store-raw ! 2 refl (typed-state 𝓤 H A W (r .state) _ (stepped r u is-r .of-state))) $
+        assigns ! (of-opd ! (load ! (from ! (fld ! field-state (stop !))) (look-in ! 8 (state-in ! l₄ (stepped r u is-r .given) (stepped r u is-r .state))))) (from ! (hop ! (look ! 14 refl) (stop !))) (store-raw ! 2 refl (typed-state 𝓤 H A W (at-table S.the-row) refl (r .state) _ (stepped r u is-r .of-state))) $
         assigns ! (of-opd ! (load ! (from ! (fld ! field-given (stop !))) (look-in ! 8 (given-in ! l₄ (stepped r u is-r .given) (stepped r u is-r .state))))) (from ! (stop !)) (init ! 16 refl (typed-given 𝓤 H A W (r .given) _ (stepped r u is-r .of-given))) $
         -- the borrow is closed at the new state
         move ! (2 ∷ 3 ∷ 4 ∷ 5 ∷ []) $ made ! S.the-type S′.the-plain (r .state) _ (stepped r u is-r .of-state) $ move ! (1 ∷ 0 ∷ []) $ closes ! tt S.the-row (r .state) (stepped r u is-r .state ∷ []) b o $

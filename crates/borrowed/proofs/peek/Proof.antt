@@ -56,7 +56,7 @@ use Rattle.chemstation.proofs.State.Laws as S′
 use Rattle.borrowed.specs.Borrowed.{takenBy, unread}
 use Rattle.borrowed.specs.declared.NextAt.{NextAt}
 use Rattle.borrowed.specs.declared.Reader.{Reader}
-use Rattle.borrowed.proofs.Values.{val, tells, slice, held, bytes-in, position-in}
+use Rattle.borrowed.proofs.Values.{val, tells, slice, held, bytes-in, position-in, vals, type-in, typed-state, typed-at}
 use Rattle.borrowed.proofs.NextAt as Q
 use Rattle.borrowed.proofs.NextAt.Laws as Q′
 use Rattle.borrowed.proofs.Reader as T
@@ -75,21 +75,12 @@ use Rattle.borrowed.proofs.peek.Code.Mir as body
 abbrev B : Lfts 1 → RattleType
 B κs = T.the-row (namedLft 1 0 tt κs)
 
-abbrev vals : State → List Val
-vals st = val st ∷ []
-
 abbrev stayed : Stays (fn.ended .signature .params) (fn.ended .kept)
 stayed = (stay-none B yes, (stay-none (λ _. S.the-row) yes, (stay-none (λ _. bool) yes, tt)))
 
 -- the types as the body has them, each fact of one computed once
 abbrev at-table : RattleType → Ty
-at-table R = spell body.table (pointee (R .written))
-
-typed-state : {M : Type 1} (𝓤 : URA M) (H : Heap 𝓤) (A : Atoms 𝓤) → Given 𝓤 H A → (st : State) (u : Val) → Is S.the-row st (u ∷ []) → Holds (hasTy (at-table S.the-row) u) × WT u
-typed-state 𝓤 H A W st u is = EL.lawful S.the-type S′.the-laws 𝓤 H A W tt .typed st _ is .0
-
-typed-at : {M : Type 1} (𝓤 : URA M) (H : Heap 𝓤) (A : Atoms 𝓤) → Given 𝓤 H A → (r : NextAt) (u : Val) → Is Q.the-row r (u ∷ []) → Holds (hasTy (at-table Q.the-row) u) × WT u
-typed-at 𝓤 H A W r u is = LL.lawful Q.the-type Q′.the-laws 𝓤 H A W .typed r _ is .0
+at-table = type-in body.table
 
 -- the reader in its local, and its two fields
 field-bytes : (κ : Lft) → fieldOf (at-table (B (κ, tt))) 0 ≡ some (slice (named 0), 0)
@@ -172,7 +163,7 @@ module _ {M : Type 1} (𝓤 : URA M) (H : Heap 𝓤) (A : Atoms 𝓤) (W : Given
     walk wt =
         qed W ((‵ (flft κ q) ⊛ ‵ ftrue) ∷ ‵ (owns (B (κ, tt) ∷ S.the-row ∷ bool ∷ []) a at) ∷ []) ∵ enter ! C Λ code.function (mach ∷ val st ∷ vbool last ∷ []) _ $
         alloc1 ! (λ l₀. alloc1 ! (λ l₁. alloc1 ! (λ l₂. alloc1 ! (λ l₃. alloc1 ! (λ l₄. alloc1 ! (λ l₅. alloc0 ! $ params1 ! $
-        pass1 ! (init ! 8 refl wt) $ pass1 ! (init ! 6 refl (typed-state 𝓤 H A W st _ is-st)) $ pass1 ! (init ! 4 refl (tt, tt)) $ pass0 ! $
+        pass1 ! (init ! 8 refl wt) $ pass1 ! (init ! 6 refl (typed-state 𝓤 H A W (at-table S.the-row) refl st _ is-st)) $ pass1 ! (init ! 4 refl (tt, tt)) $ pass0 ! $
         -- the reader's cell comes first, and stays there till its fields are read
         move ! (8 ∷ []) $ use1 W (‵ (held (named 0) l₁ 0 v (vint w64 (d .at)))) (as-held 𝓤 H A κ l₁ v (vint w64 (d .at))) $
         assigns ! (of-opd ! (load ! (from ! (fld ! (field-bytes κ) (stop !))) (look-in ! 0 (bytes-in ! (named 0) l₁ 0 v (vint w64 (d .at)))))) (from ! (stop !)) (init ! 3 refl (tt, wt .1 .0)) $
@@ -188,7 +179,7 @@ module _ {M : Type 1} (𝓤 : URA M) (H : Heap 𝓤) (A : Atoms 𝓤) (W : Given
         calls-at ! fm (StepC 𝓤 H A mem run) known to (and-then ! (load ! (from ! (stop !)) (look ! 9 refl)) (and-then ! (load ! (from ! (stop !)) (look ! 5 refl)) (and-then ! (load ! (from ! (stop !)) (look ! 3 refl)) (and-then ! (load ! (from ! (stop !)) (look ! 7 refl)) (no-more !))))) (λ u.
         answers-plain ! tt Q.the-row (‵ (flft κ q) ⊛ ‵ ftrue) u (ensured 𝓤 H A step.ended (step.clauses 𝓤 H A mem run) (κ, tt) to-args tt) Said (λ r. said 𝓤 H A step.ended (step.clauses 𝓤 H A mem run) (κ, tt) to-args tt r (Said r) (λ _. id⊢ 𝓤 _)) (λ r e is-r.
         -- [the token; what the struct owns; what st and last own; _5 (3); …; room for _0 (13); …]
-        land ! (from ! (stop !)) (init ! 13 refl (typed-at 𝓤 H A W r _ is-r)) $
+        land ! (from ! (stop !)) (init ! 13 refl (typed-at 𝓤 H A W (at-table Q.the-row) refl r _ is-r)) $
         returns ! (look ! 13 refl) $ forget ! 3 refl $ forget ! 5 refl $ forget ! 7 refl $ forget ! 9 refl $ forget ! 11 refl $ forget ! 13 refl $
         move ! (13 ∷ 14 ∷ []) $ free1 ! $ move ! (11 ∷ 12 ∷ []) $ free1 ! $ move ! (9 ∷ 10 ∷ []) $ free1 ! $ move ! (7 ∷ 8 ∷ []) $ free1 ! $ move ! (5 ∷ 6 ∷ []) $ free1 ! $ move ! (3 ∷ 4 ∷ []) $ free1 ! $ free0 ! $ keep ! (0 ∷ 1 ∷ []) $ by ! (exits r u e is-r))))))))))
 
