@@ -68,13 +68,13 @@ impl Mode {
 // The six kinds
 
 /// A record's public fields.
-struct Point {
-    time: f64,
-    axis: Option<f64>,
-    scaled: f64,
+pub(crate) struct Point {
+    pub(crate) time: f64,
+    pub(crate) axis: Option<f64>,
+    pub(crate) scaled: f64,
 }
 
-trait Kind {
+pub(crate) trait Kind {
     type State: Debug;
     fn open(seen: &[u8], last: bool, taken: &mut usize) -> Result<Option<Self::State>, EtError>;
     fn next(seen: &[u8], last: bool, taken: &mut usize, state: &mut Self::State) -> Result<Option<Point>, EtError>;
@@ -88,7 +88,7 @@ trait Kind {
 
 macro_rules! kind {
     ($kind:ident, $state:ident, $record:ident, $axis:expr, $unscaled:expr $(, $more:item)*) => {
-        struct $kind;
+        pub(crate) struct $kind;
 
         impl Kind for $kind {
             type State = $state;

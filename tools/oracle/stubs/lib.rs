@@ -13,6 +13,8 @@ macro_rules! impl_reader {
 pub mod buffer;
 pub mod driver;
 pub mod error;
+#[cfg(feature = "library")]
+pub mod fill;
 pub mod parsers;
 pub mod record;
 

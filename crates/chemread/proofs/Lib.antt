@@ -1,0 +1,2 @@
+mod States
+mod Calls

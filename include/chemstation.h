@@ -1,0 +1,129 @@
+/* Reads runs of Agilent ChemStation: what the header says, its texts, and the records as columns of doubles.
+ *
+ * The archive is made by `rt staticlib chemread` (target/staticlib/libchemread.a, x86-64 Linux). It allocates nothing, keeps
+ * nothing between calls, reads and writes no file, and needs of the C library only memcpy. Calls from several threads do not
+ * disturb each other as long as no two of them are lent the same memory to write.
+ *
+ * Each function is proved to answer, and to leave in all memory that is lent to it, what the rules of docs/FORMAT.md give, for
+ * every content of that memory. What no proof can see is how a C program calls it. The caller keeps to this:
+ *
+ *   - A pointer is never NULL, and points to at least as many elements as the length behind it says, or as the brackets of the
+ *     parameter say. This holds for length 0 too: then any pointer to an object of the type will do.
+ *   - Pointers to double and size_t are aligned to 8 bytes, as C's own objects of these types are.
+ *   - What a call may write (every pointer without `const`) overlaps nothing else that the same call is lent.
+ *   - Nothing else writes what a call is lent while the call runs.
+ *   - A bool is true or false.
+ *
+ * Any value of the other parameters has an answer. */
+#ifndef CHEMSTATION_H
+#define CHEMSTATION_H
+
+#include <stdbool.h>
+#include <stddef.h>
+#include <stdint.h>
+
+#ifdef __cplusplus
+extern "C" {
+#endif
+
+/* The kind of a run. The file does not say it. */
+enum chemstation_kind {
+    CHEMSTATION_FID = 1,
+    CHEMSTATION_MS = 2,
+    CHEMSTATION_MWD = 3,
+    CHEMSTATION_DAD = 4,
+    CHEMSTATION_UV = 5,
+    CHEMSTATION_ARRAY = 6
+};
+
+/* Answers. docs/ANSWERS.md says what can be done about the refusals, 1 to 16. */
+enum chemstation_answer {
+    CHEMSTATION_FINISHED = 0,
+    CHEMSTATION_UNKNOWN_KIND = 1,
+    CHEMSTATION_SIZE_WORD_ZERO = 2,
+    CHEMSTATION_HEADER_TOO_SMALL = 3,
+    CHEMSTATION_HEADER_TOO_LARGE = 4,
+    CHEMSTATION_UNKNOWN_EDITION = 5,
+    CHEMSTATION_BELOW_EDITION_MINIMUM = 6,
+    CHEMSTATION_TEXT_TOO_LONG = 7,
+    CHEMSTATION_NOT_UTF8 = 8,
+    CHEMSTATION_ARRAY_HEADER_TOO_SMALL = 9,
+    CHEMSTATION_TOO_MANY_SCANS = 10,
+    CHEMSTATION_MS_COUNT_TOO_SMALL = 11,
+    CHEMSTATION_UV_START_ABOVE_END = 12,
+    CHEMSTATION_UV_STEP_ZERO = 13,
+    CHEMSTATION_INCOMPLETE = 14,
+    CHEMSTATION_LENT_LENGTH = 15,
+    CHEMSTATION_UNKNOWN_TEXT = 16,
+    CHEMSTATION_MORE_BYTES = 101, /* the bytes end inside the header or a record, and were not told to be the last */
+    CHEMSTATION_FULL = 102,       /* the columns are full */
+    CHEMSTATION_GIVEN = 103       /* a run was opened, or a text fetched */
+};
+
+/* Places in `header`. */
+enum { CHEMSTATION_EDITION, CHEMSTATION_SIZE, CHEMSTATION_SEQUENCE, CHEMSTATION_VIAL, CHEMSTATION_REPLICATE };
+
+/* Places in `corrections`; times in minutes. */
+enum { CHEMSTATION_START_TIME, CHEMSTATION_END_TIME, CHEMSTATION_OFFSET, CHEMSTATION_MULTIPLIER };
+
+/* Places in `given`. */
+enum { CHEMSTATION_RECORDS, CHEMSTATION_CONSUMED };
+
+/* Numbers of the texts. */
+enum chemstation_text_number {
+    CHEMSTATION_SAMPLE = 1,
+    CHEMSTATION_DESCRIPTION = 2,
+    CHEMSTATION_OPERATOR = 3,
+    CHEMSTATION_INSTRUMENT = 4,
+    CHEMSTATION_METHOD = 5,
+    CHEMSTATION_SIGNAL_NAME = 6,
+    CHEMSTATION_Y_UNITS = 7,
+    CHEMSTATION_RUN_DATE = 8
+};
+
+/* Opens a run, given the first bytes of its file, and whether the file ends with them. No header is longer than 20,000 bytes.
+ *
+ * GIVEN: `header` and `corrections` hold what the places above name. The records begin header[CHEMSTATION_SIZE] bytes into the
+ * file. text_starts[i] and text_lengths[i] are where text i + 1 stands in the header, in bytes as stored; 0 and 0 for an empty one.
+ * `numbers` and `counts` are the state before the first record, for chemstation_fill.
+ * MORE_BYTES, or a refusal (1 to 10, 14): nothing is written. */
+uint8_t chemstation_open(uint8_t kind, const uint8_t *bytes, size_t length, bool last, size_t header[5], double corrections[4],
+                         size_t text_starts[8], size_t text_lengths[8], double numbers[6], size_t counts[4]);
+
+/* Fetches a text by its number, 1 to 8, in UTF-8. The bytes are a file's, at least its whole header; they are taken as the last.
+ *
+ * GIVEN: the text stands at the start of `text` and is *text_length bytes long; no zero byte ends it, and the rest of `text` is as
+ * it was. 1,024 bytes are enough for every text.
+ * A refusal (1 to 10, 14, 15 where the text is longer than `room`, 16): nothing is written. */
+uint8_t chemstation_text(uint8_t kind, uint8_t number, const uint8_t *bytes, size_t length, uint8_t *text, size_t room,
+                         size_t *text_length);
+
+/* Reads records into four columns of one length, given the state, the bytes behind those consumed so far, and whether the file
+ * ends with them. Record i is time[i], axis[i], unscaled[i], scaled[i]: minutes; m/z for MS, nanometres for DAD and UV, 0.0 for the
+ * other kinds; the intensity before and after the corrections. The bits of a NaN are not promised, only that it is one.
+ *
+ * given[CHEMSTATION_RECORDS] records stand at the start of the columns, the places behind them are as they were, and the records
+ * took the first given[CHEMSTATION_CONSUMED] bytes. `numbers` and `counts` are the state after the last of them. So it is with each
+ * of these answers:
+ * FULL: there may be more. MORE_BYTES: there are more, or a refusal is due, and the bytes do not tell. FINISHED: the run has
+ * ended. A refusal (11 to 14): it cannot be read on.
+ * LENT_LENGTH, the lengths differ: no record is given, both numbers of `given` are 0, the columns are as they were, and so is the
+ * state (with 0 in the places that its kind has no use for).
+ * UNKNOWN_KIND, counts[0] is not 1 to 6: both numbers of `given` are 0, and nothing else is written.
+ *
+ * The state, for who stores it: numbers = time, intensity, slope or wavelength, step, multiplier, offset; counts = kind, scans due,
+ * points or bytes due, record type (0 single, else double precision); 0 where the kind has no such number.
+ *
+ * A run in parts: open it with as many bytes as are at hand, more after MORE_BYTES; drop the header's bytes. Then fill, use the rows,
+ * drop the bytes consumed, put more behind those that are left where the answer was MORE_BYTES, and fill again until another
+ * answer than FULL or MORE_BYTES comes. However the bytes are cut, the same records come. A record with the empty MS scans before it
+ * has to stand in the buffer as a whole: if a full buffer gives MORE_BYTES and no record, it is too small. */
+uint8_t chemstation_fill(double numbers[6], size_t counts[4], const uint8_t *bytes, size_t length, bool last, double *time,
+                         size_t time_length, double *axis, size_t axis_length, double *unscaled, size_t unscaled_length,
+                         double *scaled, size_t scaled_length, size_t given[2]);
+
+#ifdef __cplusplus
+}
+#endif
+
+#endif
