@@ -10,7 +10,7 @@ use lib.Ieee.{Float, binary32, binary64, sub, div, ofInt, ofBits}
 use Rattle.rules.specs.Rule.{Rule, gives, refuses, _>>=_, _>>_, Read, got, stops}
 use Rattle.error.specs.Number.{numberOf, stopOf}
 use Rattle.common.specs.Bytes.{be, signed, part}
-use Rattle.floats.specs.Doubles.{double, scanCountOf}
+use Rattle.floats.specs.Doubles.{double, minutes, scanCountOf}
 use Rattle.floats.specs.declared.ScanCount.{ScanCount}
 use Rattle.floats.specs.declared.ScanCount.the-variants.{TooMany, Count}
 use Rattle.text.specs.WhiteSpace.{trimmedOf}
@@ -73,9 +73,6 @@ textsRule e h (t ∷ ts) = do
 -- a stored double, BE
 abbrev pub doubleAt : ℕ → Float → List ℕ → Float
 doubleAt at other h = cond (eqb at 0) other (ofBits binary64 (be (part at 8 h)))
-
-abbrev pub minutes : Float → Float
-minutes x = div binary64 x (double 60000)
 
 abbrev pub timeAt : Clock → ℕ → List ℕ → Float
 timeAt Nowhere at h = double 0

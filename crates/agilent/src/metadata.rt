@@ -17,7 +17,8 @@ ghost use Rattle.rules.specs.Rule.{gives, refuses};
 ghost use Rattle.error.specs.Number.{numberOf};
 ghost use Rattle.agilent.specs.Table.{look, minima, texts, fieldOf};
 ghost use Rattle.agilent.specs.Rows.{editions, editionOf, layoutOf, startAt, fieldBy, reach};
-ghost use Rattle.agilent.specs.Metadata.{Place, placeAt, pascal, utf16Pascal, textRule, textsRule, spotRule, minutes, timeAt, doubleAt, saidOf, metadataRule, blank};
+ghost use Rattle.floats.specs.Doubles.{minutes};
+ghost use Rattle.agilent.specs.Metadata.{Place, placeAt, pascal, utf16Pascal, textRule, textsRule, spotRule, timeAt, doubleAt, saidOf, metadataRule, blank};
 ghost use Rattle.agilent.specs.Answers.{Finds, checkedRule};
 
 pub struct ChemstationMetadata {

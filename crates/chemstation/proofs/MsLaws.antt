@@ -13,7 +13,8 @@ use Rattle.rules.proofs.Laws.{read-map}
 use Rattle.rules.proofs.Places.{at-start, at-number, at-gives, at-cut, more-number, none, cut}
 use Rattle.common.specs.Bytes.{be, part}
 use Rattle.common.specs.Fields.{u16, u32}
-use Rattle.chemstation.specs.Streams.{Told, told, sumOf, minutes, msMade, msValue, msPoint, msScans, msRule}
+use Rattle.floats.specs.Doubles.{double, minutes}
+use Rattle.chemstation.specs.Streams.{Told, told, sumOf, msMade, msValue, msPoint, msScans, msRule}
 use Rattle.chemstation.specs.Next.{stepped, rule}
 use Rattle.chemstation.specs.declared.State.the-variants.{Ms}
 use Rattle.chemstation.specs.declared.chemstation.ChemstationMsState.{ChemstationMsState}
@@ -57,7 +58,7 @@ abbrev behind : ℕ → ℕ → Rule Told
 behind left c = do
   time ← u32 be
   skip 12
-  cond (eqb ((c - 14) / 2) 0) (skip 10 >> msScans (left - 1)) (msPoint left ((c - 14) / 2) (minutes time))
+  cond (eqb ((c - 14) / 2) 0) (skip 10 >> msScans (left - 1)) (msPoint left ((c - 14) / 2) (minutes (double time)))
 
 one-due : (left : ℕ) → 0 < left → msScans left ≡ (u16 be >>= λ c. cond (ltb c 14) (refuses 11) (behind left c))
 unfolding msScans
@@ -88,13 +89,13 @@ module _ (left : ℕ) (due : 0 < left) (last : Bool) (at : ℕ) (s : List ℕ) w
 
     -- with points
     module _ (any : points ≡ 0 → ⊥) where
-      filled : at + 2 ≤ length s → readAt last (msScans left) at s ≡ readAt last (u32 be >>= λ time. skip 12 >> msPoint left points (minutes time)) (at + 2) s
+      filled : at + 2 ≤ length s → readAt last (msScans left) at s ≡ readAt last (u32 be >>= λ time. skip 12 >> msPoint left points (minutes (double time))) (at + 2) s
       filled h = counted h ∙ rw (le-ltb count 14 some, ne-eqb points 0 any)
 
       pub filled-cut : at + 2 ≤ length s → length s < at + 18 → readAt last (msScans left) at s ≡ stops (cut last)
       filled-cut h l = filled h ∙ at-cut (more-number 4 12 be _ λ time. more-number 12 0 _ _ λ x. none) last (at + 2) s h (omega arith)
 
-      pub filled-point : at + 18 ≤ length s → readAt last (msScans left) at s ≡ readAt last (msPoint left points (minutes (be (part (at + 2) 4 s)))) (at + 18) s
+      pub filled-point : at + 18 ≤ length s → readAt last (msScans left) at s ≡ readAt last (msPoint left points (minutes (double (be (part (at + 2) 4 s))))) (at + 18) s
       filled-point h = filled (omega arith) ∙ number-to last 4 be _ (at + 2) (at + 6) s (omega arith) (omega arith) ∙ number-to last 12 _ _ (at + 6) (at + 18) s (omega arith) h
 
     -- with none

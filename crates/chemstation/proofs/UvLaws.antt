@@ -14,8 +14,8 @@ use Rattle.common.specs.Bytes.{le, part}
 use Rattle.common.specs.Fields.{u16}
 use Rattle.floats.specs.Wholes.{doubles, flat}
 use Rattle.chemstation.specs.Changes.{Change, clears}
-use Rattle.floats.specs.Doubles.{double}
-use Rattle.chemstation.specs.Streams.{Told, minutes, twentieths, uvPoint, uvScan, uvRule}
+use Rattle.floats.specs.Doubles.{double, minutes}
+use Rattle.chemstation.specs.Streams.{Told, twentieths, uvPoint, uvScan, uvRule}
 use Rattle.chemstation.specs.Next.{stepped}
 use Rattle.chemstation.specs.declared.State.the-variants.{Uv}
 use Rattle.chemstation.specs.declared.chemstation_new.ChemstationUvState.{ChemstationUvState}
@@ -69,7 +69,7 @@ module _ (st : ChemstationUvState) (last : Bool) (s : List ℕ) where
   ReadsScan x = answer (Uv st) (read last (uvScan scans mult) s) ≡ answer (Uv st) x
 
   abbrev firstPoint : ℕ → ℕ → ℕ → ℕ → List Change → Rule Told
-  firstPoint time start end step = uvPoint scans ((end - start) / step + 1) (minutes time) (sub binary64 (twentieths start) (twentieths step)) (twentieths step) mult
+  firstPoint time start end step = uvPoint scans ((end - start) / step + 1) (minutes (double time)) (sub binary64 (twentieths start) (twentieths step)) (twentieths step) mult
 
   abbrev afterStep : ℕ → ℕ → ℕ → ℕ → Rule Told
   afterStep time start end step = cond (eqb step 0) (refuses 13) (skip 8 >> firstPoint time start end step (clears ∷ []))

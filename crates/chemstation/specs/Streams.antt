@@ -8,7 +8,7 @@ use lib.Ieee.{Float, binary32, binary64, add, sub, mul, div, ofInt, ofBits}
 use Rattle.rules.specs.Rule.{Rule, gives, refuses, ends, _>>=_, _>>_, number, skip, mayEnd, mapRule}
 use Rattle.common.specs.Bytes.{be, le}
 use Rattle.common.specs.Fields.{u16, u32, i16, i32}
-use Rattle.floats.specs.Doubles.{double}
+use Rattle.floats.specs.Doubles.{double, minutes}
 use Rattle.floats.specs.Wholes.{Sum, flat, doubles}
 use Rattle.chemstation.specs.Changes.{Change, clears, adds, slopes, becomes, restarts}
 use Rattle.chemstation.specs.declared.chemstation.ChemstationFidState.{ChemstationFidState}
@@ -40,10 +40,6 @@ abbrev pub told : Made → List Change → Told
 told m cs = record { does = cs; makes = m }
 
 -- ---- numbers as doubles, each operation rounded once
-
--- '/ 60000'
-abbrev pub minutes : ℕ → Float
-minutes t = div binary64 (double t) (double 60000)
 
 -- '/ 20'
 abbrev pub twentieths : ℕ → Float
@@ -133,7 +129,7 @@ msScans (suc scans) = do
         skip 12
         cond (eqb ((c - 14) / 2) 0)
             (skip 10 >> msScans scans)
-            (msPoint (suc scans) ((c - 14) / 2) (minutes time)))
+            (msPoint (suc scans) ((c - 14) / 2) (minutes (double time))))
 
 -- 'No scans due: finished. With no points due: ..'
 unfoldable pub msRule : ChemstationMsState → Rule Told
@@ -183,7 +179,7 @@ widthOf (Absolute z) = 6
 -- 'Time / 60000, wavelength / 20, scaled value / 2000'
 abbrev pub dadMade : ℕ → ℕ → Float → Float → Float → Made
 dadMade scans bytes time wv step = record {
-  shows = λ y. Spectrum (div binary64 time (double 60000)) (div binary64 wv (double 20)) y (div binary64 y (double 2000));
+  shows = λ y. Spectrum (minutes time) (div binary64 wv (double 20)) y (div binary64 y (double 2000));
   then = λ s. Dad (record {
     «n_scans_left» = record { 0 = scans };
     «n_bytes_left» = record { 0 = bytes };
@@ -256,7 +252,7 @@ uvScan scans mult = do
         cond (eqb step 0) (refuses 13)
             (do
               skip 8
-              uvPoint scans ((end - start) / step + 1) (minutes time) (sub binary64 (twentieths start) (twentieths step)) (twentieths step) mult (clears ∷ [])))
+              uvPoint scans ((end - start) / step + 1) (minutes (double time)) (sub binary64 (twentieths start) (twentieths step)) (twentieths step) mult (clears ∷ [])))
 
 -- 'A scan is debited when one point was due before the call, so one-point scans never are'
 unfoldable pub uvRule : ChemstationUvState → Rule Told

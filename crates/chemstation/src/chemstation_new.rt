@@ -21,9 +21,9 @@ ghost use Prim.Native.Nat.{_+_, _-_, _/_, _≤_, _<_};
 ghost use lib.Ieee.{binary64, sub};
 ghost use lib.ListN.{length};
 ghost use Rattle.rules.specs.Rule.{got, read, readAt, mapRead};
-ghost use Rattle.floats.specs.Doubles.{double};
+ghost use Rattle.floats.specs.Doubles.{double, minutes};
 ghost use Rattle.floats.specs.Wholes.{doubles, flat};
-ghost use Rattle.chemstation.specs.Streams.{sumOf, minutes, twentieths, uvMade, uvPoint, uvScan, told, arrayMade};
+ghost use Rattle.chemstation.specs.Streams.{sumOf, twentieths, uvMade, uvPoint, uvScan, told, arrayMade};
 ghost use Rattle.chemstation.specs.Next.{itemOf, stepped, answerOf, rule};
 
 pub struct ChemstationUvState {
@@ -86,7 +86,7 @@ fn uv_begun(
     ensures { λ r. ⌜ r ≡ record {
       «n_scans_left» = st .«n_scans_left»;
       «n_wvs_left» = record { 0 = (end - start) / step + 1 };
-      «cur_time» = minutes time;
+      «cur_time» = minutes (double time);
       «cur_intensity» = double 0;
       «cur_wv» = sub binary64 (twentieths start) (twentieths step);
       «wv_step» = twentieths step;

@@ -2,7 +2,7 @@
 use Prim.Native.Nat.{ℕ, _+_, _^_}
 use mathlib.Core.Bool.{Bool, cond}
 use lib.IntN.{pos}
-use lib.Ieee.{Float, binary64, le, ofInt, toUnsigned, toBits, isNan}
+use lib.Ieee.{Float, binary64, div, le, ofInt, toUnsigned, toBits, isNan}
 use Rattle.floats.specs.declared.Bits.{Bits}
 use Rattle.floats.specs.declared.Bits.the-variants.{Nan, Pattern}
 use Rattle.floats.specs.declared.ScanCount.{ScanCount}
@@ -11,6 +11,10 @@ use Rattle.floats.specs.declared.ScanCount.the-variants.{TooMany, Count}
 -- a whole number as a double
 abbrev pub double : ℕ → Float
 double n = ofInt binary64 (pos n)
+
+-- document 01: a stored time '/ 60000' is in minutes
+abbrev pub minutes : Float → Float
+minutes x = div binary64 x (double 60000)
 
 -- document 01, the log program: 'as 16 hexadecimal digits of the bits, or `nan`'
 abbrev pub bitsOf : Float → Bits

@@ -1,6 +1,6 @@
 -- Eight digits made at once, in the fields of a word.
 use mathlib.Core.Path.{_≡_, refl, sym, ap, ap₂, _∙_, subst}
-use mathlib.Core.List.{List, [], _∷_, _++_, map, append-assoc, append-nil}
+use mathlib.Core.List.{List, [], _∷_, _++_, append-assoc, append-nil}
 use Prim.Native.Nat.{ℕ, zero, suc, _+_, _-_, _*_, _/_, _%_, _^_, _≤_, _<_}
 use native.Mathlib.Nat.{mod-lt, mod-eq-of-lt, lt-of-lt-of-le, add-zero, add-suc, add-comm, add-assoc, add-left-comm, add-mul, zero-mul, mul-comm, mul-assoc, pow-suc, one-le-pow, div-one, div-div-eq-div-mul, sub-add-cancel, div-lt-iff-lt-mul}
 use native.Mathlib.Omega.{arith}
@@ -16,7 +16,7 @@ use Rattle.log.proofs.Digits.{no-branch}
 -- ---- digits of halves
 
 -- the last k digits of x, and those before
-pub digits-parted : (k j x : ℕ) → digits 16 (j + k) x ≡ digits 16 j (x / 16 ^ k) ++ digits 16 k (x % 16 ^ k)
+digits-parted : (k j x : ℕ) → digits 16 (j + k) x ≡ digits 16 j (x / 16 ^ k) ++ digits 16 k (x % 16 ^ k)
 digits-parted zero j x = rw (add-zero j, div-one x) (sym (append-nil (digits 16 j x)))
 digits-parted (suc k) j x =
     let low : x % (16 ^ k * 16) ≡ (x / 16 % 16 ^ k) * 16 + x % 16 = mod-mul x (one-le-pow k 16 (omega arith)) (omega arith) in
@@ -26,33 +26,33 @@ digits-parted (suc k) j x =
     rw (add-suc j k, pow-suc 16 k, upper, rest, last, digits-parted k j (x / 16)) (append-assoc (digits 16 j (x / 16 / 16 ^ k)) (digits 16 k (x / 16 % 16 ^ k)) (digit (x % 16) ∷ []))
 
 -- the halves of each number, the upper first
-abbrev pub halves : ℕ → List ℕ → List ℕ
+abbrev halves : ℕ → List ℕ → List ℕ
 halves d [] = []
 halves d (x ∷ l) = x / d ∷ x % d ∷ halves d l
 
 -- j digits of each number
-abbrev pub texts : ℕ → List ℕ → List ℕ
+abbrev texts : ℕ → List ℕ → List ℕ
 texts j [] = []
 texts j (x ∷ l) = digits 16 j x ++ texts j l
 
-pub texts-halves : (j : ℕ) (l : List ℕ) → texts j (halves (16 ^ j) l) ≡ texts (j + j) l
+texts-halves : (j : ℕ) (l : List ℕ) → texts j (halves (16 ^ j) l) ≡ texts (j + j) l
 texts-halves j [] = refl
 texts-halves j (x ∷ l) = rw (digits-parted j j x, append-assoc, texts-halves j l) refl
 
 -- ---- fields
 
 -- every number is below b
-abbrev pub Below : ℕ → List ℕ → Type 0
+abbrev Below : ℕ → List ℕ → Type 0
 Below b [] = Unit
 Below b (x ∷ l) = (x < b) × Below b l
 
 -- the numbers in fields of w bits, the first in the lowest
-abbrev pub fields : ℕ → List ℕ → ℕ
+abbrev fields : ℕ → List ℕ → ℕ
 fields w [] = 0
 fields w (x ∷ l) = fields w l * 2 ^ w + x
 
 -- the k low bits of as many fields
-abbrev pub lows : ℕ → ℕ → List ℕ → ℕ
+abbrev lows : ℕ → ℕ → List ℕ → ℕ
 lows w k [] = 0
 lows w k (x ∷ l) = lows w k l * 2 ^ w + (2 ^ k - 1)
 
@@ -90,14 +90,14 @@ parted k (x ∷ l) h =
     ∙ rw (rest, rest-half, low, high, pow-add 2 (k + k) (k + k))
     (regroup (bitAnd v e) (bitAnd (v / 2 ^ k) e) (x % 2 ^ k) (x / 2 ^ k) (2 ^ (k + k)) ∙ ap (λ m. (m * 2 ^ (k + k) + x % 2 ^ k) * 2 ^ (k + k) + x / 2 ^ k) (parted k l (h .1)))
 
-pub below-halves : (d : ℕ) (l : List ℕ) → 0 < d → Below (d * d) l → Below d (halves d l)
+below-halves : (d : ℕ) (l : List ℕ) → 0 < d → Below (d * d) l → Below d (halves d l)
 below-halves d [] p h = tt
 below-halves d (x ∷ l) p h = (div-lt-iff-lt-mul {k = d} {x = x} {y = d} p .1 (h .0), (mod-lt x p, below-halves d l p (h .1)))
 
 -- ---- digits in bytes
 
 -- c in as many bytes
-abbrev pub every : ℕ → List ℕ → ℕ
+abbrev every : ℕ → List ℕ → ℕ
 every c [] = 0
 every c (x ∷ l) = every c l * 256 + c
 
@@ -166,10 +166,12 @@ module _ (n : ℕ) where
     above = and-le-r ((one + every 6 ones) / 16) (lows 8 1 ones);
   }
 
-  digits-bytes : (l : List ℕ) → AreBytes (texts 1 l)
-  unfolding AreBytes
-  digits-bytes [] = tt
-  digits-bytes (x ∷ l) = (omega (arith, no-branch (x % 16) (mod-lt x (omega arith)), mod-lt x {m = 16} (omega arith)), digits-bytes l)
+-- ---- digits as bytes
+
+digits-bytes : (l : List ℕ) → AreBytes (texts 1 l)
+unfolding AreBytes
+digits-bytes [] = tt
+digits-bytes (x ∷ l) = (omega (arith, no-branch (x % 16) (mod-lt x (omega arith)), mod-lt x {m = 16} (omega arith)), digits-bytes l)
 
 -- the bytes of a number that bytes make up
 bytes-of : (l : List ℕ) → AreBytes l → bytesOf (length l) (le l) ≡ l
@@ -180,8 +182,8 @@ bytes-of (b ∷ l) h =
     let rest : (b + 256 * le l) / 256 ≡ le l = omega (arith, h .0) in
     rw (low, rest) (ap (λ t. b ∷ t) (bytes-of l (h .1)))
 
-pub word-bytes : (n : ℕ) → bytesOf 8 (le (digits 16 8 n)) ≡ digits 16 8 n
-word-bytes n = bytes-of (digits 16 8 n) (subst AreBytes (eight-digits n) (digits-bytes n (ones n)))
+word-bytes : (n : ℕ) → bytesOf 8 (le (digits 16 8 n)) ≡ digits 16 8 n
+word-bytes n = bytes-of (digits 16 8 n) (subst AreBytes (eight-digits n) (digits-bytes (ones n)))
 
 -- two words of eight digits are the sixteen of the number
 pub sixteen : (n : ℕ) → bytesOf 8 (le (digits 16 8 (n / 4294967296))) ++ bytesOf 8 (le (digits 16 8 (n % 4294967296))) ≡ digits 16 16 n

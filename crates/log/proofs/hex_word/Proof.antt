@@ -1,7 +1,7 @@
 -- By the fields of a word; what is masked is not above its mask.
 use native.Mathlib.Omega.{arith}
 use borrow.Author.Needs.{needs}
-use Rattle.log.proofs.Words.{hex-word, Masked, masked}
+use Rattle.log.proofs.Words.{hex-word, masked}
 use Rattle.log.proofs.hex_word.Statement.{statement}
 use Rattle.log.proofs.hex_word.Tie as tie
 
@@ -14,12 +14,12 @@ hex-word-spec =
     (tie.spec
     (λ c. search needs)
     (λ c. search needs)
-    (λ c. let m : Masked (c .args .n) = masked (c .args .n) in search needs)
-    (λ c. let m : Masked (c .args .n) = masked (c .args .n) in search needs)
-    (λ c. let m : Masked (c .args .n) = masked (c .args .n) in search needs)
-    (λ c. let m : Masked (c .args .n) = masked (c .args .n) in search needs)
-    (λ c. let m : Masked (c .args .n) = masked (c .args .n) in search needs)
-    (λ c. let m : Masked (c .args .n) = masked (c .args .n) in search needs)
-    (λ c. let m : Masked (c .args .n) = masked (c .args .n) in search needs)
-    (λ c. let m : Masked (c .args .n) = masked (c .args .n) in search needs)
+    (λ c. let m = masked (c .args .n) in search needs)
+    (λ c. let m = masked (c .args .n) in search needs)
+    (λ c. let m = masked (c .args .n) in search needs)
+    (λ c. let m = masked (c .args .n) in search needs)
+    (λ c. let m = masked (c .args .n) in search needs)
+    (λ c. let m = masked (c .args .n) in search needs)
+    (λ c. let m = masked (c .args .n) in search needs)
+    (λ c. let m = masked (c .args .n) in search needs)
     returns)

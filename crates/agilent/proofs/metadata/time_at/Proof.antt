@@ -4,7 +4,8 @@ use mir.Syntax.{w32}
 use mir.Val.{toZ, ofZ}
 use lib.Ieee.{binary32, binary64, ofInt, ofBits}
 use borrow.Author.Needs.{needs}
-use Rattle.agilent.specs.Metadata.{minutes, timeAt}
+use Rattle.floats.specs.Doubles.{minutes}
+use Rattle.agilent.specs.Metadata.{timeAt}
 use Rattle.agilent.proofs.metadata.time_at.Statement.{statement}
 use Rattle.agilent.proofs.metadata.time_at.Tie as tie
 
