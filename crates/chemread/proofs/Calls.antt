@@ -6,7 +6,7 @@ use Prim.Native.Nat.{ℕ}
 use lib.Ieee.{Float}
 use Rattle.rules.specs.Rule.{Read, got, stops}
 use Rattle.rules.proofs.Laws.{got≢stops}
-use Rattle.error.specs.Number.{stopOf}
+use Rattle.error.specs.Number.{stopOf, stopNumber, closingNumber}
 use Rattle.agilent.specs.Metadata.{Header}
 use Rattle.agilent.specs.Fetch.{outcomeOf, Fetches}
 use Rattle.agilent.specs.declared.metadata.ChemstationMetadata.{ChemstationMetadata}
@@ -20,7 +20,7 @@ use Rattle.reader.specs.declared.OpenedRun.{OpenedRun}
 use Rattle.reader.specs.declared.Filled.{Filled}
 use Rattle.chemread.specs.declared.Kept.the-variants as kept
 use Rattle.chemread.specs.State.{numbersOf, countsOf}
-use Rattle.chemread.specs.Answers.{stopNumber, closingNumber, outcomeNumber}
+use Rattle.chemread.specs.Answers.{outcomeNumber}
 use Rattle.chemread.specs.Lent.{Opened, openedAs, OpensInto, text, sizeAfter, FetchesInto, filling, FillsInto}
 
 -- ---- Open

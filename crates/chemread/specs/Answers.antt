@@ -1,18 +1,8 @@
--- One number for each answer.
+-- One number for each answer of Open and of Fetch; those of the others are in error/specs/Number.
 use Prim.Native.Nat.{ℕ}
-use Rattle.rules.specs.Rule.{Stop, refused, finished, moreBytes, Read, got, stops}
-use Rattle.rules.specs.Calls.{Answer, full, stopped}
+use Rattle.rules.specs.Rule.{Read, got, stops}
+use Rattle.error.specs.Number.{stopNumber}
 use Rattle.agilent.specs.Fetch.{Outcome, wrote, refuse}
-
--- 'finished' is 0, a refusal its own number, 1 to 16
-abbrev pub stopNumber : Stop → ℕ
-stopNumber finished = 0
-stopNumber (refused c) = c
-stopNumber moreBytes = 101
-
-abbrev pub closingNumber : Answer → ℕ
-closingNumber full = 102
-closingNumber (stopped z) = stopNumber z
 
 -- 103: a header was opened, or a text fetched
 abbrev pub readNumber : {A : Type 0} → Read A → ℕ

@@ -17,7 +17,8 @@ use Rattle.reader.specs.Columns.{Columns, columnsWith, fillOf}
 use Rattle.chemread.specs.declared.Kept.{Kept}
 use Rattle.chemread.specs.declared.Kept.the-variants as kept
 use Rattle.chemread.specs.State.{numbersOf, countsOf}
-use Rattle.chemread.specs.Answers.{closingNumber, readNumber, outcomeNumber}
+use Rattle.error.specs.Number.{closingNumber}
+use Rattle.chemread.specs.Answers.{readNumber, outcomeNumber}
 
 -- ---- Open
 

@@ -19,12 +19,11 @@ use reader::Opening;
 ghost use mathlib.Core.Path.{_≡_};
 ghost use mathlib.Core.Bool.{true};
 ghost use Rattle.rules.specs.Rule.{read};
-ghost use Rattle.error.specs.Number.{stopOf};
+ghost use Rattle.error.specs.Number.{stopOf, stopNumber, closingNumber};
 ghost use Rattle.agilent.specs.Metadata.{openRule};
 ghost use Rattle.agilent.specs.Fetch.{fetchRule};
 ghost use Rattle.reader.specs.Columns.{columns, closingOf};
 ghost use Rattle.chemread.specs.State.{numbersOf, typeNumber, countsOf, typeAt, fidFrom, msFrom, mwdFrom, dadFrom, uvFrom, arrayFrom, stateOf, KeepsStates};
-ghost use Rattle.chemread.specs.Answers.{stopNumber, closingNumber};
 ghost use Rattle.chemread.specs.Lent.{opened, headerOf, correctionsOf, OpensInto, text, FetchesInto, filling, FillsInto};
 
 // ---- answers as numbers

@@ -1,6 +1,7 @@
 -- Document 01's number for each refusal, and the answers of the rules for those of the code (FORMAT 3).
 use Prim.Native.Nat.{ℕ}
 use Rattle.rules.specs.Rule.{Stop, refused, finished, moreBytes}
+use Rattle.rules.specs.Calls.{Answer, full, stopped}
 use Rattle.error.specs.declared.Refusal.{Refusal}
 use Rattle.error.specs.declared.Refusal.the-variants.{UnknownKind, SizeWordZero, HeaderTooSmall, HeaderTooLarge, UnknownEdition, BelowEditionMinimum, TextTooLong, NotUtf8}
 use Rattle.error.specs.declared.Refusal.the-variants.{ArrayHeaderTooSmall, TooManyScans, MsCountTooSmall, UvStartAboveEnd, UvStepZero, Incomplete, LentLength, UnknownText}
@@ -29,3 +30,13 @@ abbrev pub stopOf : Stopped → Stop
 stopOf (Refused r) = refused (numberOf r)
 stopOf Finished = finished
 stopOf MoreBytes = moreBytes
+
+-- one number for each answer: 'finished (printed 0)', a refusal its own, and what has none in document 01 one beyond all refusals (DECISIONS 18)
+abbrev pub stopNumber : Stop → ℕ
+stopNumber finished = 0
+stopNumber (refused c) = c
+stopNumber moreBytes = 101
+
+abbrev pub closingNumber : Answer → ℕ
+closingNumber full = 102
+closingNumber (stopped z) = stopNumber z

@@ -6,8 +6,9 @@ use Prim.Native.Nat.{ℕ, _/_, _%_}
 use lib.IntN.{ℤ, pos, negsuc}
 use lib.Ieee.{binary64, ofInt, toBits}
 use lib.ListN.{replicate}
-use Rattle.rules.specs.Rule.{Stop, refused, finished, moreBytes, Read, got, stops, read}
-use Rattle.rules.specs.Calls.{Answer, full, stopped, Reading, readUpTo}
+use Rattle.rules.specs.Rule.{Read, got, stops, read}
+use Rattle.rules.specs.Calls.{Reading, readUpTo}
+use Rattle.error.specs.Number.{stopNumber, closingNumber}
 use Rattle.agilent.specs.Header.{sizeRule}
 use Rattle.agilent.specs.Metadata.{blank}
 use Rattle.chemstation.specs.Next.{rule}
@@ -19,16 +20,6 @@ use Rattle.reader.specs.Opening.{begins}
 pub data Operation : Type 0 where
   sizes : ℕ → ℕ → Operation  -- Size the header: a kind and a size word
   streams : ℕ → ℕ → List ℕ → Operation  -- the records of a stream told last: a kind, the scans due and the bytes behind the header
-
--- answers as numbers: 'finished' is 0, a refusal its number
-abbrev pub stopNumber : Stop → ℕ
-stopNumber (refused c) = c
-stopNumber finished = 0
-stopNumber moreBytes = 99
-
-abbrev pub closingNumber : Answer → ℕ
-closingNumber full = 98
-closingNumber (stopped z) = stopNumber z
 
 abbrev pub sizeNumber : Read ℕ → ℕ
 sizeNumber (got n k) = n
