@@ -18,9 +18,8 @@ use Rattle.agilent.proofs.Checks.{passes, fails, by-check, by-bool}
 pub is-known : (kind : ℕ) → 1 ≤ kind → kind ≤ 6 → known kind ≡ true
 is-known kind h l = rw (le-leb 1 kind h, le-leb kind 6 l) refl
 
-part-take : (at w n : ℕ) (s : List ℕ) → at + w ≤ n → n ≤ length s → part at w (take n s) ≡ part at w s
-part-take at w n s h l =
-    let e = length-take-le n s l in
+pub part-take : (at w n : ℕ) (s : List ℕ) → at + w ≤ length (take n s) → part at w (take n s) ≡ part at w s
+part-take at w n s h =
     sym (ap (part at w) (sym (take-append-drop n s))
     ∙ ap (take w) (drop-append-le at (take n s) (drop n s) (omega arith))
     ∙ take-append-le w (drop at (take n s)) (drop n s) (omega (arith, length-drop at (take n s))))
@@ -67,7 +66,7 @@ module _ (kind : ℕ) (last : Bool) (s : List ℕ) where
 module _ (kind : ℕ) (last : Bool) (s : List ℕ) (e : known kind ≡ true) (h : 268 ≤ length s) where
   begins : read last (headerRule kind) s ≡ readAt last (sized kind (wordIn s) (take 268 s)) 268 s
   unfolding headerRule
-  begins = rw (passes 1 _ e) (sym (at-start last _ s) ∙ at-number last 268 (λ b. b) _ 0 s h ∙ rw (part-take 264 4 268 s (omega arith) h) refl)
+  begins = rw (passes 1 _ e) (sym (at-start last _ s) ∙ at-number last 268 (λ b. b) _ 0 s h ∙ rw (part-take 264 4 268 s (omega (arith, length-take-le 268 s h))) refl)
 
   pub size-word : wordIn s ≡ 0 → read last (sizeRule kind) s ≡ stops (refused 2)
   unfolding read

@@ -1,11 +1,2 @@
 pub mod Checks
 pub mod HeaderLaws
-pub mod Tables
-pub mod TextLaws
-pub mod Gathers
-pub mod Descriptions
-pub mod Opens
-pub mod Orderly
-pub mod Texts
-pub mod Opened
-pub mod Fetches

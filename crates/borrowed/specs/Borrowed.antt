@@ -8,8 +8,8 @@ use Rattle.rules.specs.Rule.{Read, got, stops, read, mapRead}
 use Rattle.rules.specs.Calls.{oneRecord}
 use Rattle.error.specs.Number.{stopOf}
 use Rattle.chemstation.specs.Next.{rule}
-use Rattle.chemstation.specs.declared.State.{State}
-use Rattle.chemstation.specs.declared.Record.{Record}
+use Rattle.streams.specs.declared.State.{State}
+use Rattle.streams.specs.declared.Record.{Record}
 use Rattle.borrowed.specs.declared.Given.{Given}
 use Rattle.borrowed.specs.declared.Given.the-variants as given
 use Rattle.borrowed.specs.declared.Reader.{Reader}

@@ -1,15 +1,16 @@
 // Next record in the two forms that borrow: over a state that the caller lends, and from a reader that holds the bytes and a
 // position in them. Functions over them are thin; the work is done by value, on a slice and a number.
-use chemstation::Next;
-use chemstation::Record;
-use chemstation::State;
+use chemstation::next_record;
 use error::Stopped;
-use reader::next_record;
+use streams::Next;
+use streams::Record;
+use streams::State;
 ghost use mathlib.Core.Path.{_≡_};
 ghost use Prim.Native.Nat.{_+_};
 ghost use lib.ListN.{length, drop};
 ghost use Rattle.rules.specs.Rule.{read};
-ghost use Rattle.chemstation.specs.Next.{rule, answerOf};
+ghost use Rattle.chemstation.specs.Next.{rule};
+ghost use Rattle.streams.specs.Next.{answerOf};
 ghost use Rattle.borrowed.specs.Borrowed.{givenOf, shownBy, stateBy, takenBy, unread, moved};
 
 // ---- Next record over a borrow of the state
@@ -21,12 +22,12 @@ pub enum Given {
     Stopped(Stopped),
 }
 
-pub struct Stepped {
-    pub given: Given,
-    pub state: State,
+struct Stepped {
+    given: Given,
+    state: State,
 }
 
-// The work, by value.
+// The work, by value: what is given, and the state after it or as it was.
 fn step(st: State, s: &[u8], last: bool) -> Stepped
     ensures { λ r. ⌜ (givenOf (r .given) ≡ shownBy st last (now (s .entry))) × (r .state ≡ stateBy st last (now (s .entry))) ⌝ }
 {
@@ -54,7 +55,7 @@ pub fn next_record_mut(st: &mut State, s: &[u8], last: bool) -> Given
 // ---- the reader
 
 // How many bytes are left from a position on: none from one at or past the end.
-pub fn left_at(s: &[u8], at: usize) -> usize
+fn left_at(s: &[u8], at: usize) -> usize
     ensures { λ n. ⌜ n ≡ length (drop at (now (s .entry))) ⌝ }
 {
     if at < s.len() { s.len() - at } else { 0 }
@@ -66,7 +67,7 @@ pub struct NextAt {
     pub at: usize,
 }
 
-// The work: the next record from a position on.
+// The next record from a position on, and the position after it; a refusal, 'finished' and 'more bytes' leave the position.
 pub fn next_at(st: State, s: &[u8], at: usize, last: bool) -> NextAt
     ensures { λ r. ⌜ (answerOf (r .next) ≡ read last (rule st) (drop at (now (s .entry)))) × (r .at ≡ at + takenBy st last (drop at (now (s .entry)))) ⌝ }
 {
@@ -84,18 +85,14 @@ pub struct Reader<'a> {
     pub at: usize,
 }
 
+// A reader of the bytes, at their start.
 pub fn new<'a>(bytes: &'a [u8]) -> Reader<'a>
     ensures { λ r. ⌜ (r .bytes ≡ bytes .entry) × (r .at ≡ 0) ⌝ }
 {
     Reader { bytes, at: 0 }
 }
 
-pub fn position<'a>(r: Reader<'a>) -> usize
-    ensures { λ n. ⌜ n ≡ r .entry .at ⌝ }
-{
-    r.at
-}
-
+// How many bytes are left from its position on.
 pub fn left<'a>(r: Reader<'a>) -> usize
     ensures { λ n. ⌜ n ≡ length (unread (r .entry)) ⌝ }
 {
@@ -109,18 +106,4 @@ pub fn next_from<'s, 'a>(r: &'s mut Reader<'a>, st: State, last: bool) -> Next
     let t = next_at(st, r.bytes, r.at, last);
     r.at = t.at;
     t.next
-}
-
-// The next record and the position after it; the reader stays.
-pub fn peek<'a>(r: Reader<'a>, st: State, last: bool) -> NextAt
-    ensures { λ x. ⌜ (answerOf (x .next) ≡ read last (rule st) (unread (r .entry))) × (x .at ≡ r .entry .at + takenBy st last (unread (r .entry))) ⌝ }
-{
-    next_at(st, r.bytes, r.at, last)
-}
-
-// Plain parameters, so that whoever calls it needs no walk by hand: a reader at the position is made and looked through.
-pub fn next_of(st: State, s: &[u8], at: usize, last: bool) -> NextAt
-    ensures { λ r. ⌜ (answerOf (r .next) ≡ read last (rule st) (drop at (now (s .entry)))) × (r .at ≡ at + takenBy st last (drop at (now (s .entry)))) ⌝ }
-{
-    peek(Reader { bytes: s, at }, st, last)
 }

@@ -1,2 +1,1 @@
-mod States
 mod Calls

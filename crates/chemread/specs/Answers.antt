@@ -2,7 +2,7 @@
 use Prim.Native.Nat.{ℕ}
 use Rattle.rules.specs.Rule.{Read, got, stops}
 use Rattle.error.specs.Number.{stopNumber}
-use Rattle.agilent.specs.Fetch.{Outcome, wrote, refuse}
+use Rattle.fetch.specs.Fetch.{Outcome, wrote, refuse}
 
 -- 103: a header was opened, or a text fetched
 abbrev pub readNumber : {A : Type 0} → Read A → ℕ

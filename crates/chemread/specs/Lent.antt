@@ -5,25 +5,27 @@ use mathlib.Core.List.{List, [], _∷_}
 use Prim.Native.Nat.{ℕ}
 use lib.ListN.{length}
 use lib.Ieee.{Float}
+use denote.Ref.{now}
+use denote.Triple.Both.{Both}
 use Rattle.rules.specs.Rule.{Read, got, stops}
 use Rattle.rules.specs.Calls.{Reading}
-use Rattle.agilent.specs.Metadata.{Header}
-use Rattle.agilent.specs.Fetch.{Outcome, wrote, refuse, fetched, heldAfter}
-use Rattle.agilent.specs.declared.metadata.ChemstationMetadata.{ChemstationMetadata}
-use Rattle.chemstation.specs.declared.State.{State}
-use Rattle.chemstation.specs.declared.Record.{Record}
-use Rattle.reader.specs.Opening.{begins}
-use Rattle.reader.specs.Columns.{Columns, columnsWith, fillOf}
-use Rattle.chemread.specs.declared.Kept.{Kept}
-use Rattle.chemread.specs.declared.Kept.the-variants as kept
-use Rattle.chemread.specs.State.{numbersOf, countsOf}
+use Rattle.metadata.specs.Metadata.{Header}
+use Rattle.fetch.specs.Fetch.{Outcome, wrote, refuse, fetched, heldAfter}
+use Rattle.metadata.specs.declared.ChemstationMetadata.{ChemstationMetadata}
+use Rattle.streams.specs.declared.State.{State}
+use Rattle.streams.specs.declared.Record.{Record}
+use Rattle.opening.specs.Opening.{begins}
+use Rattle.reader.specs.Columns.{Columns, Lent, columnsWith, fillOf}
+use Rattle.states.specs.declared.Kept.{Kept}
+use Rattle.states.specs.declared.Kept.the-variants as kept
+use Rattle.states.specs.State.{numbersOf, countsOf, stateOf}
 use Rattle.error.specs.Number.{closingNumber}
 use Rattle.chemread.specs.Answers.{readNumber, outcomeNumber}
 
 -- ---- Open
 
 -- memory for a header and a state
-pub record Opened : Type 0 where
+pub record Run : Type 0 where
   pub header : List ℕ
   pub corrections : List Float
   pub «text_starts» : List ℕ
@@ -31,8 +33,11 @@ pub record Opened : Type 0 where
   pub numbers : List Float
   pub counts : List ℕ
 
-abbrev pub opened : List ℕ → List Float → List ℕ → List ℕ → List Float → List ℕ → Opened
-opened h c s l x n = record { header = h; corrections = c; «text_starts» = s; «text_lengths» = l; numbers = x; counts = n }
+abbrev pub lentRun : Lent (List ℕ) → Lent (List Float) → Lent (List ℕ) → Lent (List ℕ) → Lent (List Float) → Lent (List ℕ) → Both Run Run
+lentRun h c s l x n = record {
+  entry = record { header = now (h .entry); corrections = now (c .entry); «text_starts» = now (s .entry); «text_lengths» = now (l .entry); numbers = now (x .entry); counts = now (n .entry) };
+  exit = record { header = now (h .exit); corrections = now (c .exit); «text_starts» = now (s .exit); «text_lengths» = now (l .exit); numbers = now (x .exit); counts = now (n .exit) };
+}
 
 abbrev pub headerOf : ChemstationMetadata → List ℕ
 headerOf d = d .edition ∷ d .size ∷ d .sequence ∷ d .vial ∷ d .replicate ∷ []
@@ -40,18 +45,25 @@ headerOf d = d .edition ∷ d .size ∷ d .sequence ∷ d .vial ∷ d .replicate
 abbrev pub correctionsOf : ChemstationMetadata → List Float
 correctionsOf d = d .«start_time» ∷ d .«end_time» ∷ d .«offset_correction» ∷ d .«mult_correction» ∷ []
 
-abbrev pub openedAs : ChemstationMetadata → State → Opened
-openedAs d st = opened (headerOf d) (correctionsOf d) (d .«text_starts») (d .«text_lengths») (numbersOf st) (countsOf st)
+abbrev pub openedAs : ChemstationMetadata → State → Run
+openedAs d st = record {
+  header = headerOf d;
+  corrections = correctionsOf d;
+  «text_starts» = d .«text_starts»;
+  «text_lengths» = d .«text_lengths»;
+  numbers = numbersOf st;
+  counts = countsOf st;
+}
 
 -- a header that was opened, with the state before the first record; or nothing is written
-abbrev pub openedBy : ℕ → Read Header → Opened → Opened
+abbrev openedBy : ℕ → Read Header → Run → Run
 openedBy kind (got x n) old = openedAs (x .says) (begins kind x)
 openedBy kind (stops z) old = old
 
--- the answer r, and the memory before and after, by what the rule reads
-pub record OpensInto (kind : ℕ) (x : Read Header) (r : ℕ) (old new : Opened) : Type 0 where
+-- the answer r and the lent memory m, by what the rule reads
+pub record OpensInto (kind : ℕ) (x : Read Header) (r : ℕ) (m : Both Run Run) : Type 0 where
   pub answer : r ≡ readNumber x
-  pub memory : new ≡ openedBy kind x old
+  pub memory : m .exit ≡ openedBy kind x (m .entry)
 
 -- ---- Fetch a text
 
@@ -60,16 +72,20 @@ pub record Text : Type 0 where
   pub bytes : List ℕ
   pub size : ℕ
 
-abbrev pub text : List ℕ → ℕ → Text
-text b n = record { bytes = b; size = n }
+abbrev pub lentText : Lent (List ℕ) → Lent ℕ → Both Text Text
+lentText b n = record { entry = record { bytes = now (b .entry); size = now (n .entry) }; exit = record { bytes = now (b .exit); size = now (n .exit) } }
 
 abbrev pub sizeAfter : Outcome → ℕ → ℕ
 sizeAfter (wrote n) old = n
 sizeAfter (refuse c) old = old
 
-pub record FetchesInto (x : Read (List ℕ)) (r : ℕ) (old new : Text) : Type 0 where
-  pub answer : r ≡ outcomeNumber (fetched (length (old .bytes)) x)
-  pub memory : new ≡ text (heldAfter (old .bytes) x) (sizeAfter (fetched (length (old .bytes)) x) (old .size))
+abbrev textAfter : Read (List ℕ) → Text → Text
+textAfter x old = record { bytes = heldAfter (old .bytes) x; size = sizeAfter (fetched (length (old .bytes)) x) (old .size) }
+
+-- the answer r and the lent memory m, by what the rule reads
+pub record FetchesInto (x : Read (List ℕ)) (r : ℕ) (m : Both Text Text) : Type 0 where
+  pub answer : r ≡ outcomeNumber (fetched (length (m .entry .bytes)) x)
+  pub memory : m .exit ≡ textAfter x (m .entry)
 
 -- ---- Fill columns
 
@@ -80,22 +96,34 @@ pub record Filling : Type 0 where
   pub columns : Columns
   pub given : List ℕ
 
-abbrev pub filling : List Float → List ℕ → Columns → List ℕ → Filling
-filling x n c g = record { numbers = x; counts = n; columns = c; given = g }
+abbrev pub lentFilling : Lent (List Float) → Lent (List ℕ) → Both Columns Columns → Lent (List ℕ) → Both Filling Filling
+lentFilling x n c g = record {
+  entry = record { numbers = now (x .entry); counts = now (n .entry); columns = c .entry; given = now (g .entry) };
+  exit = record { numbers = now (x .exit); counts = now (n .exit); columns = c .exit; given = now (g .exit) };
+}
 
-abbrev pub filledBy : Reading State Record → Columns → Filling
-filledBy g old = filling (numbersOf (g .state)) (countsOf (g .state)) (columnsWith (g .records) old) (length (g .records) ∷ g .consumed ∷ [])
+abbrev filledBy : Reading State Record → Columns → Filling
+filledBy g old = record {
+  numbers = numbersOf (g .state);
+  counts = countsOf (g .state);
+  columns = columnsWith (g .records) old;
+  given = length (g .records) ∷ g .consumed ∷ [];
+}
 
 -- without a state nothing is given, and the rest is as it was
-abbrev pub fillingAfter : Kept → List ℕ → Bool → Filling → Filling
+abbrev fillingAfter : Kept → List ℕ → Bool → Filling → Filling
 fillingAfter (kept.State st) s last old = filledBy (fillOf st s last (old .columns)) (old .columns)
-fillingAfter kept.NoKind s last old = filling (old .numbers) (old .counts) (old .columns) (0 ∷ 0 ∷ [])
+fillingAfter kept.NoKind s last old = record { numbers = old .numbers; counts = old .counts; columns = old .columns; given = 0 ∷ 0 ∷ [] }
 
-abbrev pub fillingNumber : Kept → List ℕ → Bool → Columns → ℕ
+abbrev fillingNumber : Kept → List ℕ → Bool → Columns → ℕ
 fillingNumber (kept.State st) s last old = closingNumber (fillOf st s last old .closing)
 fillingNumber kept.NoKind s last old = 1
 
--- the answer r, and the memory before and after, by the state that the numbers hold
-pub record FillsInto (k : Kept) (s : List ℕ) (last : Bool) (r : ℕ) (old new : Filling) : Type 0 where
-  pub answer : r ≡ fillingNumber k s last (old .columns)
-  pub memory : new ≡ fillingAfter k s last old
+-- the state that the numbers hold
+abbrev keptIn : Filling → Kept
+keptIn f = stateOf (f .numbers) (f .counts)
+
+-- the answer r and the lent memory m, from the bytes s
+pub record FillsInto (s : List ℕ) (last : Bool) (r : ℕ) (m : Both Filling Filling) : Type 0 where
+  pub answer : r ≡ fillingNumber (keptIn (m .entry)) s last (m .entry .columns)
+  pub memory : m .exit ≡ fillingAfter (keptIn (m .entry)) s last (m .entry)

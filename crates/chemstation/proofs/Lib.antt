@@ -1,11 +1,1 @@
-pub mod Ints
-pub mod Steps
-pub mod DeltaLaws
-pub mod FidLaws
-pub mod PointLaws
-pub mod DadLaws
-pub mod UpTo
-pub mod ArrayLaws
-pub mod MsLaws
-pub mod MwdLaws
-pub mod UvLaws
+pub mod Answers

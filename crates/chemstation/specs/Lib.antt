@@ -1,3 +1,1 @@
-pub mod Changes
-pub mod Streams
 pub mod Next

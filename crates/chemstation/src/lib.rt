@@ -1,108 +1,27 @@
-// The record streams of the six kinds: a state, a rule and a next record for each.
-pub mod chemstation;
-pub mod chemstation_new;
-
-use chemstation::ChemstationDadState;
-use chemstation::ChemstationFidState;
-use chemstation::ChemstationMsState;
-use chemstation::ChemstationMwdState;
-use chemstation_new::ChemstationArrayState;
-use chemstation_new::ChemstationUvState;
-use common::Endian;
-use common::i16_in;
-use common::i32_in;
-use error::Stopped;
-use floats::f64_from_i16;
-use floats::f64_from_i32;
+// Next record over all kinds.
+use array::array_next;
+use dad::dad_next;
+use fid::fid_next;
+use ms::ms_next;
+use mwd::mwd_next;
+use streams::Next;
+use streams::State;
+use uv::uv_next;
 ghost use mathlib.Core.Path.{_≡_};
-ghost use Prim.Native.Nat.{_≤_};
-ghost use lib.ListN.{length};
-ghost use Rattle.rules.specs.Rule.{readAt};
-ghost use Rattle.common.specs.Bytes.{orderOf};
-ghost use Rattle.floats.specs.Wholes.{doubles, flat};
-ghost use Rattle.chemstation.specs.Changes.{changed};
-ghost use Rattle.chemstation.specs.Streams.{delta, changeOf};
-ghost use Rattle.chemstation.specs.Next.{deltaRead};
+ghost use Rattle.rules.specs.Rule.{read};
+ghost use Rattle.streams.specs.Next.{answerOf};
+ghost use Rattle.chemstation.specs.Next.{rule};
 
-// Counts still due, never one for another.
-pub struct Scans(pub usize);
-
-pub struct Points(pub usize);
-
-pub struct Bytes(pub usize);
-
-// Times in minutes, wavelengths in nanometres.
-pub enum Record {
-    Trace {
-        time: f64,
-        unscaled: f64,
-        scaled: f64,
-    },
-    Mass {
-        time: f64,
-        mz: f64,
-        unscaled: f64,
-        scaled: f64,
-    },
-    Spectrum {
-        time: f64,
-        wavelength: f64,
-        unscaled: f64,
-        scaled: f64,
-    },
-}
-
-pub enum State {
-    Fid(ChemstationFidState),
-    Ms(ChemstationMsState),
-    Mwd(ChemstationMwdState),
-    Dad(ChemstationDadState),
-    Uv(ChemstationUvState),
-    Array(ChemstationArrayState),
-}
-
-// A delta of MWD, DAD and UV: a number to add, or an absolute value.
-pub enum Delta {
-    By(i16),
-    Absolute(i32),
-}
-
-// What Next record answers.
-pub enum Next {
-    // a record, the state after it and the count of bytes that it took
-    Given(Record, State, usize),
-    Stopped(Stopped),
-}
-
-// A delta at a position and the position after it, or why there is none.
-pub enum DeltaAt {
-    Read(Delta, usize),
-    Stopped(Stopped),
-}
-
-fn delta_at(order: Endian, s: &[u8], at: usize, last: bool) -> DeltaAt
-    requires { ⌜ at ≤ length (now s) ⌝ }
-    ensures { λ r. ⌜ deltaRead r ≡ readAt last (delta (orderOf order)) at (now (s .entry)) ⌝ }
+// The next record of any kind. A refusal, 'finished' and 'more bytes' consume nothing and leave the state as it was.
+pub fn next_record(st: State, s: &[u8], last: bool) -> Next
+    ensures { λ r. ⌜ answerOf r ≡ read last (rule st) (now (s .entry)) ⌝ }
 {
-    if s.len() - at < 2 {
-        return DeltaAt::Stopped(error::cut(last));
-    }
-    let v = i16_in(order, s, at);
-    if v != -32768 {
-        return DeltaAt::Read(Delta::By(v), at + 2);
-    }
-    if s.len() - at < 6 {
-        return DeltaAt::Stopped(error::cut(last));
-    }
-    DeltaAt::Read(Delta::Absolute(i32_in(order, s, at + 2)), at + 6)
-}
-
-// A value after a delta.
-fn changed_by(value: f64, d: Delta) -> f64
-    ensures { λ r. ⌜ r ≡ (changed doubles (flat doubles value) (changeOf d)) .value ⌝ }
-{
-    match d {
-        Delta::By(v) => value + f64_from_i16(v),
-        Delta::Absolute(z) => f64_from_i32(z),
+    match st {
+        State::Fid(f) => fid_next(f, s, last),
+        State::Ms(m) => ms_next(m, s, last),
+        State::Mwd(m) => mwd_next(m, s, last),
+        State::Dad(d) => dad_next(d, s, last),
+        State::Uv(u) => uv_next(u, s, last),
+        State::Array(a) => array_next(a, s, last),
     }
 }

@@ -49,6 +49,7 @@ fn signed32(n: u32) -> i32
 
 // ---- big-endian
 
+// Big-endian, signed, 16 bits, at a position.
 pub fn be_i16(s: &[u8], at: usize) -> i16
     requires { ⌜ at + 2 ≤ length (now s) ⌝ }
     ensures { λ r. ⌜ r ≡ signed be (part at 2 (now (s .entry))) ⌝ }
@@ -56,6 +57,7 @@ pub fn be_i16(s: &[u8], at: usize) -> i16
     signed16(be_u16(s, at))
 }
 
+// Big-endian, unsigned, 16 bits, at a position.
 pub fn be_u16(s: &[u8], at: usize) -> u16
     requires { ⌜ at + 2 ≤ length (now s) ⌝ }
     ensures { λ r. ⌜ r ≡ be (part at 2 (now (s .entry))) ⌝ }
@@ -63,6 +65,7 @@ pub fn be_u16(s: &[u8], at: usize) -> u16
     join16(s[at], s[at + 1])
 }
 
+// Big-endian, signed, 32 bits, at a position.
 pub fn be_i32(s: &[u8], at: usize) -> i32
     requires { ⌜ at + 4 ≤ length (now s) ⌝ }
     ensures { λ r. ⌜ r ≡ signed be (part at 4 (now (s .entry))) ⌝ }
@@ -70,6 +73,7 @@ pub fn be_i32(s: &[u8], at: usize) -> i32
     signed32(be_u32(s, at))
 }
 
+// Big-endian, unsigned, 32 bits, at a position.
 pub fn be_u32(s: &[u8], at: usize) -> u32
     requires { ⌜ at + 4 ≤ length (now s) ⌝ }
     ensures { λ r. ⌜ r ≡ be (part at 4 (now (s .entry))) ⌝ }
@@ -77,6 +81,7 @@ pub fn be_u32(s: &[u8], at: usize) -> u32
     join32(be_u16(s, at), be_u16(s, at + 2))
 }
 
+// Big-endian, unsigned, 64 bits, at a position.
 pub fn be_u64(s: &[u8], at: usize) -> u64
     requires { ⌜ at + 8 ≤ length (now s) ⌝ }
     ensures { λ r. ⌜ r ≡ be (part at 8 (now (s .entry))) ⌝ }
@@ -86,6 +91,7 @@ pub fn be_u64(s: &[u8], at: usize) -> u64
 
 // ---- little-endian
 
+// Little-endian, signed, 16 bits, at a position.
 pub fn le_i16(s: &[u8], at: usize) -> i16
     requires { ⌜ at + 2 ≤ length (now s) ⌝ }
     ensures { λ r. ⌜ r ≡ signed le (part at 2 (now (s .entry))) ⌝ }
@@ -93,6 +99,7 @@ pub fn le_i16(s: &[u8], at: usize) -> i16
     signed16(le_u16(s, at))
 }
 
+// Little-endian, unsigned, 16 bits, at a position.
 pub fn le_u16(s: &[u8], at: usize) -> u16
     requires { ⌜ at + 2 ≤ length (now s) ⌝ }
     ensures { λ r. ⌜ r ≡ le (part at 2 (now (s .entry))) ⌝ }
@@ -100,6 +107,7 @@ pub fn le_u16(s: &[u8], at: usize) -> u16
     join16(s[at + 1], s[at])
 }
 
+// Little-endian, signed, 32 bits, at a position.
 pub fn le_i32(s: &[u8], at: usize) -> i32
     requires { ⌜ at + 4 ≤ length (now s) ⌝ }
     ensures { λ r. ⌜ r ≡ signed le (part at 4 (now (s .entry))) ⌝ }
@@ -107,6 +115,7 @@ pub fn le_i32(s: &[u8], at: usize) -> i32
     signed32(le_u32(s, at))
 }
 
+// Little-endian, unsigned, 32 bits, at a position.
 pub fn le_u32(s: &[u8], at: usize) -> u32
     requires { ⌜ at + 4 ≤ length (now s) ⌝ }
     ensures { λ r. ⌜ r ≡ le (part at 4 (now (s .entry))) ⌝ }
@@ -114,6 +123,7 @@ pub fn le_u32(s: &[u8], at: usize) -> u32
     join32(le_u16(s, at + 2), le_u16(s, at))
 }
 
+// Little-endian, unsigned, 64 bits, at a position.
 pub fn le_u64(s: &[u8], at: usize) -> u64
     requires { ⌜ at + 8 ≤ length (now s) ⌝ }
     ensures { λ r. ⌜ r ≡ le (part at 8 (now (s .entry))) ⌝ }
@@ -128,6 +138,7 @@ pub enum Endian {
     Little,
 }
 
+// Signed, 16 bits, at a position, in either order.
 pub fn i16_in(order: Endian, s: &[u8], at: usize) -> i16
     requires { ⌜ at + 2 ≤ length (now s) ⌝ }
     ensures { λ r. ⌜ r ≡ signed (orderOf order) (part at 2 (now (s .entry))) ⌝ }
@@ -138,6 +149,7 @@ pub fn i16_in(order: Endian, s: &[u8], at: usize) -> i16
     }
 }
 
+// Signed, 32 bits, at a position, in either order.
 pub fn i32_in(order: Endian, s: &[u8], at: usize) -> i32
     requires { ⌜ at + 4 ≤ length (now s) ⌝ }
     ensures { λ r. ⌜ r ≡ signed (orderOf order) (part at 4 (now (s .entry))) ⌝ }

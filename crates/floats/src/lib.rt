@@ -1,35 +1,48 @@
-// Doubles: from integers and from bit patterns, to bit patterns, and a scan quotient cut to a count.
+// Doubles: from integers and from bit patterns, to bit patterns, a stored time in minutes, and a scan quotient cut to a count.
 // Every function has an answer for every input, NaNs and infinities included.
 ghost use mathlib.Core.Path.{_≡_};
 ghost use lib.IntN.{pos};
 ghost use lib.Ieee.{binary32, binary64, ofInt, ofBits};
-ghost use Rattle.floats.specs.Doubles.{bitsOf, scanCountOf};
+ghost use Rattle.floats.specs.Doubles.{minutes, bitsOf, scanCountOf};
 ghost use Rattle.floats.specs.Wholes.{ExactSums};
 
 // ---- Rust's f64::from
 
+// An i16 as a double: exact.
 pub fn f64_from_i16(v: i16) -> f64
     ensures { λ r. ⌜ r ≡ ofInt binary64 v ⌝ }
 {
     v as f64
 }
 
+// An i32 as a double: exact.
 pub fn f64_from_i32(v: i32) -> f64
     ensures { λ r. ⌜ r ≡ ofInt binary64 v ⌝ }
 {
     v as f64
 }
 
+// A u16 as a double: exact.
 pub fn f64_from_u16(v: u16) -> f64
     ensures { λ r. ⌜ r ≡ ofInt binary64 (pos v) ⌝ }
 {
     v as f64
 }
 
+// A u32 as a double: exact.
 pub fn f64_from_u32(v: u32) -> f64
     ensures { λ r. ⌜ r ≡ ofInt binary64 (pos v) ⌝ }
 {
     v as f64
+}
+
+// ---- times
+
+// A stored time, in thousandths of a second, as minutes.
+pub fn minutes_of(x: f64) -> f64
+    ensures { λ r. ⌜ r ≡ minutes x ⌝ }
+{
+    x / 60000.0
 }
 
 // ---- bit patterns
@@ -62,6 +75,7 @@ pub enum Bits {
     Pattern(u64),
 }
 
+// A double's bits, or that it is a NaN.
 pub fn f64_to_bits(x: f64) -> Bits
     ensures { λ r. ⌜ r ≡ bitsOf x ⌝ }
 {
@@ -75,10 +89,12 @@ pub fn f64_to_bits(x: f64) -> Bits
 // ---- the scans of an array
 
 pub enum ScanCount {
+    // 2^53 or more
     TooMany,
     Count(usize),
 }
 
+// How many scans a quotient makes: 1 and as many whole steps as fit.
 pub fn scan_count(quotient: f64) -> ScanCount
     ensures { λ r. ⌜ r ≡ scanCountOf quotient ⌝ }
 {

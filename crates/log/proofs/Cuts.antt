@@ -1,22 +1,21 @@
 -- However the input is cut into parts, the log is that of the whole file.
 use mathlib.Core.Path.{_≡_, refl, sym, ap, ap₂, _∙_, subst, subst₂}
-use mathlib.Core.Bool.{Bool, true, false}
+use mathlib.Core.Bool.{Bool, true, false, false≢true}
 use mathlib.Core.List.{List, [], _∷_, _++_, append-assoc, append-nil}
 use Prim.Native.Nat.{ℕ, _+_}
 use native.Mathlib.Nat.{add-zero, add-assoc, zero-add}
-use native.Mathlib.Omega.{arith}
 use lib.ListN.{length, take, drop, length-append}
 use lib.Seq.{drop-append-le}
 use Rattle.rules.specs.Rule.{Rule, gives, field, refuses, ends, Stop, moreBytes, Read, got, stops, lacks, read}
 use Rattle.rules.specs.Calls.{Item}
 use Rattle.rules.proofs.Laws.{got≢stops, by-fit, read-fits, read-past, taking-stops, waits-iff, taken-within, Keeps, keeps}
 use Rattle.rules.proofs.Last.{told-last}
-use Rattle.agilent.specs.Metadata.{Header, openRule}
+use Rattle.metadata.specs.Metadata.{Header, openRule}
 use Rattle.chemstation.specs.Next.{rule}
-use Rattle.chemstation.specs.declared.State.{State}
-use Rattle.chemstation.specs.declared.Record.{Record}
-use Rattle.reader.specs.Opening.{begins}
-use Rattle.log.specs.Text.{recordLine, endLine}
+use Rattle.streams.specs.declared.State.{State}
+use Rattle.streams.specs.declared.Record.{Record}
+use Rattle.opening.specs.Opening.{begins}
+use Rattle.lines.specs.Lines.{recordLine, endLine}
 use Rattle.log.specs.Runs.{linesOf, Ran, none, more}
 use Rattle.log.specs.Parts.{RestOf, record-line, end-line, headerText, LogOf, refused-run, opened-run, AnyCut}
 use Rattle.log.specs.Parts.{Reached, opens, logs, comes, ends as told-end, Came, all, some, Closes, unopened, opened}
@@ -48,16 +47,16 @@ whole-got : {A : Type 0} (last : Bool) (r : Rule A) (bs G : List ℕ) {a : A} {n
 whole-got last r bs G {a} {n} b e = (whole last r bs G (got a n) b e (λ q. got≢stops q), drop-append-le n bs G (taken-within last r bs e))
 
 lacks-told : (may : Bool) (bs : List ℕ) → ¬ (lacks true may bs ≡ moreBytes)
-lacks-told true [] e = let o : _≡_ {A = ℕ} 0 1 = cc in omega arith
-lacks-told true (b ∷ bs) e = let o : _≡_ {A = ℕ} 0 1 = cc in omega arith
-lacks-told false bs e = let o : _≡_ {A = ℕ} 0 1 = cc in omega arith
+lacks-told true [] e = false≢true cc
+lacks-told true (b ∷ bs) e = false≢true cc
+lacks-told false bs e = false≢true cc
 
 -- told last, a rule never waits
 pub never-waits : {A : Type 0} (r : Rule A) (bs : List ℕ) → ¬ (read true r bs ≡ stops moreBytes)
 unfolding read
 never-waits (gives a) bs e = got≢stops e
-never-waits (refuses c) bs e = let o : _≡_ {A = ℕ} 0 1 = cc in omega arith
-never-waits ends bs e = let o : _≡_ {A = ℕ} 0 1 = cc in omega arith
+never-waits (refuses c) bs e = false≢true cc
+never-waits ends bs e = false≢true cc
 never-waits (field may w k) bs e = go (never-waits (k (take w bs)) (drop w bs))
   where
     go : ¬ (read true (k (take w bs)) (drop w bs) ≡ stops moreBytes) → ⊥

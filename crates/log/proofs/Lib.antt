@@ -1,7 +1,3 @@
--- Laws that several proofs cite.
-pub mod Puts
-pub mod Digits
-pub mod Words
-pub mod Logs
-pub mod Moves
+mod Logs
+mod Moves
 pub mod Cuts

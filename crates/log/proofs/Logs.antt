@@ -9,12 +9,13 @@ use lib.Seq.{drop-drop}
 use Rattle.rules.specs.Rule.{got, read}
 use Rattle.rules.proofs.Laws.{taken-within}
 use Rattle.chemstation.specs.Next.{rule}
-use Rattle.chemstation.specs.declared.State.{State}
-use Rattle.chemstation.specs.declared.Record.{Record}
-use Rattle.chemstation.specs.declared.Record.the-variants.{Trace, Mass, Spectrum}
-use Rattle.log.specs.Text.{recordLine, Put}
+use Rattle.streams.specs.declared.State.{State}
+use Rattle.streams.specs.declared.Record.{Record}
+use Rattle.streams.specs.declared.Record.the-variants.{Trace, Mass, Spectrum}
+use Rattle.digits.specs.Put.{Put}
+use Rattle.lines.specs.Lines.{recordLine}
 use Rattle.log.specs.Runs.{linesOf, Ran, none, more}
-use Rattle.log.proofs.Puts.{put-as, put-then, put-none}
+use Rattle.digits.proofs.Puts.{put-as, put-then, put-none}
 
 pub lines-append : (rs ss : List Record) → linesOf (rs ++ ss) ≡ linesOf rs ++ linesOf ss
 unfolding linesOf

@@ -6,12 +6,12 @@ use mathlib.Core.List.{List, [], _++_}
 use lib.ListN.{length, drop}
 use Rattle.rules.specs.Rule.{Stop, moreBytes, got, stops, read}
 use Rattle.rules.specs.Calls.{Item}
-use Rattle.agilent.specs.Metadata.{Header, openRule}
+use Rattle.metadata.specs.Metadata.{Header, openRule}
 use Rattle.chemstation.specs.Next.{rule}
-use Rattle.chemstation.specs.declared.State.{State}
-use Rattle.chemstation.specs.declared.Record.{Record}
-use Rattle.reader.specs.Opening.{begins}
-use Rattle.log.specs.Text.{recordLine, headerLine, endLine}
+use Rattle.streams.specs.declared.State.{State}
+use Rattle.streams.specs.declared.Record.{Record}
+use Rattle.opening.specs.Opening.{begins}
+use Rattle.lines.specs.Lines.{recordLine, headerLine, endLine}
 use Rattle.log.specs.Runs.{linesOf, Ran}
 
 -- ---- the log of a file: all its bytes are at hand, and every call is told that they are the last

@@ -8,11 +8,12 @@ use Rattle.rules.specs.Rule.{got, stops, read}
 use Rattle.rules.specs.Calls.{Item}
 use Rattle.error.specs.Number.{stopOf}
 use Rattle.chemstation.specs.Next.{rule}
-use Rattle.chemstation.specs.declared.State.{State}
-use Rattle.chemstation.specs.declared.Record.{Record}
+use Rattle.streams.specs.declared.State.{State}
+use Rattle.streams.specs.declared.Record.{Record}
 use Rattle.reader.specs.declared.Closing.{Closing}
 use Rattle.reader.specs.declared.Closing.the-variants.{Full, Stopped}
-use Rattle.log.specs.Text.{recordLine, Put}
+use Rattle.digits.specs.Put.{Put}
+use Rattle.lines.specs.Lines.{recordLine}
 use Rattle.log.specs.declared.Logged.{Logged}
 
 unfoldable pub linesOf : List Record → List ℕ

@@ -12,16 +12,16 @@ use Rattle.rules.specs.Rule.{Read, moreBytes, got, stops, read, mapRead}
 use Rattle.rules.proofs.Laws.{got≢stops, taken-within}
 use Rattle.error.specs.Number.{stopOf}
 use Rattle.error.specs.declared.Stopped.{Stopped}
-use Rattle.agilent.specs.Metadata.{Header, openRule}
-use Rattle.agilent.specs.declared.metadata.ChemstationMetadata.{ChemstationMetadata}
-use Rattle.chemstation.specs.declared.State.{State}
-use Rattle.reader.specs.Opening.{begins, startRead, saysRead, OpensRun}
-use Rattle.reader.specs.declared.Opening.{Opening}
-use Rattle.reader.specs.declared.Opening.the-variants as opening
-use Rattle.reader.specs.declared.OpenedRun.{OpenedRun}
-use Rattle.log.specs.Text.{headerLine, Put}
+use Rattle.metadata.specs.Metadata.{Header, openRule}
+use Rattle.metadata.specs.declared.ChemstationMetadata.{ChemstationMetadata}
+use Rattle.streams.specs.declared.State.{State}
+use Rattle.opening.specs.Opening.{begins, startRead, saysRead, OpensRun}
+use Rattle.opening.specs.declared.Opening.the-variants as opening
+use Rattle.opening.specs.declared.OpenedRun.{OpenedRun}
+use Rattle.digits.specs.Put.{Put}
+use Rattle.lines.specs.Lines.{headerLine}
 use Rattle.log.specs.Parts.{headerText, Reached, opens, unopened}
-use Rattle.log.proofs.Puts.{put-text}
+use Rattle.digits.proofs.Puts.{put-text}
 use Rattle.logger.specs.Run.{Stands, ClosedBy}
 use Rattle.logger.proofs.Runs.{waits-before}
 

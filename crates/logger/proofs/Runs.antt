@@ -15,7 +15,7 @@ use Rattle.reader.specs.declared.Closing.the-variants as closing
 use Rattle.log.specs.Runs.{linesOf, StoppedBy, LoggedBy}
 use Rattle.log.specs.Parts.{Reached, logs, comes, ends, Closes, opened}
 use Rattle.log.specs.declared.Logged.{Logged}
-use Rattle.log.proofs.Puts.{put-text}
+use Rattle.digits.proofs.Puts.{put-text}
 use Rattle.log.proofs.Cuts.{never-waits}
 use Rattle.logger.specs.Run.{Kept, atHand, Within, Answers, Stands, Onward, ClosedBy, EndedBy, Ends, RunsFrom, After, Turned}
 use Rattle.logger.specs.declared.Place.{Place}

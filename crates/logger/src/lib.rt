@@ -1,11 +1,11 @@
 // The log program over two lent buffers: a kind digit and the file from standard input, the log to standard output.
-use chemstation::State;
 use error::Stopped;
 use libc::STDERR_FILENO;
 use libc::STDIN_FILENO;
 use libc::STDOUT_FILENO;
+use opening::Opening;
 use reader::Closing;
-use reader::Opening;
+use streams::State;
 ghost use Prim.Native.Nat.{ℕ, _≤_};
 ghost use mathlib.Core.List.{List};
 ghost use mathlib.Core.Path.{_≡_};
@@ -251,7 +251,7 @@ fn run_opened(kind: u8, buf: &mut [u8], to: usize, last: bool, out: &mut [u8]) -
     requires { ⌜ (to ≤ length (now buf)) × (last ≡ ltb to (length (now buf))) × (44 ≤ length (now out)) ⌝ }
     ensures { λ r. ⌜ Ends kind (now (buf .exit)) r (now (out .exit)) ⌝ }
 {
-    let o = reader::open_run(kind, &buf[0..to], last);
+    let o = opening::open_run(kind, &buf[0..to], last);
     let answer = o.answer;
     let d = o.metadata;
     match answer {
@@ -260,7 +260,7 @@ fn run_opened(kind: u8, buf: &mut [u8], to: usize, last: bool, out: &mut [u8]) -
             at: 0,
         },
         Opening::Run(state, n) => {
-            let at = log::put_header(out, 0, d.edition, d.size);
+            let at = lines::put_header(out, 0, d.edition, d.size);
             let p = Place {
                 state,
                 from: n,
@@ -299,7 +299,7 @@ fn close(out: &mut [u8], at: usize, z: Stopped, count: usize)
         os::fail(b"chemlog: standard output");
         return;
     }
-    let n = log::put_end(out, 0, z, count);
+    let n = lines::put_end(out, 0, z, count);
     if !flush(out, n) {
         os::fail(b"chemlog: standard output");
     }
@@ -334,7 +334,7 @@ pub fn log_input(buf: &mut [u8], out: &mut [u8])
         os::fail(b"chemlog: standard input");
         return;
     }
-    let kind = log::kind_of(digit[0]);
+    let kind = digits::kind_of(digit[0]);
     let e = run(kind, buf, out);
     finish(e, out);
 }

@@ -1,36 +1,32 @@
 -- The loop of Fill columns: what the columns hold after so many records, and the facts at the start, at each turn and at the end.
 use mathlib.Core.Path.{_≡_, refl, sym, ap, ap₂, _∙_, subst}
-use mathlib.Core.Bool.{Bool}
-use mathlib.Core.List.{List, [], _∷_, _++_, map, map-append, append-assoc}
-use Prim.Native.Nat.{ℕ, suc, _+_, _-_, _≤_, _<_}
+use mathlib.Core.Bool.{Bool, true, _&&_}
+use mathlib.Core.List.{List, [], _∷_, _++_, map}
+use Prim.Native.Nat.{ℕ, _+_, _-_, _≤_, _<_}
 use native.Mathlib.Nat.{sub-zero, le-of-suc-le-suc}
 use native.Mathlib.Omega.{arith}
+use lib.Dec.{T, eqb, eqb→eq}
 use lib.Ieee.{Float}
-use lib.ListN.{length, take, drop, set, length-append, length-map, length-drop}
-use lib.Seq.{drop-cons, set-at, take-all}
+use lib.ListN.{length, drop, set, length-append, length-map, length-drop}
+use mir.Facts.{and-yes}
 use Rattle.rules.specs.Rule.{Stop, got, stops, read}
 use Rattle.rules.specs.Calls.{full, stopped, readUpTo}
 use Rattle.rules.proofs.Laws.{taken-within}
 use Rattle.rules.proofs.Filling.{Filled, filled-start, filled-more, filled-stops, filled-full}
-use Rattle.chemstation.specs.Next.{answerOf, rule}
-use Rattle.chemstation.specs.declared.Next.{Next}
-use Rattle.chemstation.specs.declared.State.{State}
-use Rattle.chemstation.specs.declared.Record.{Record}
-use Rattle.reader.specs.Columns.{rowOf, Columns, columns, filledWith, columnsWith, closingOf, FilledBy}
+use Rattle.chemstation.specs.Next.{rule}
+use Rattle.streams.specs.declared.State.{State}
+use Rattle.streams.specs.declared.Record.{Record}
+use Rattle.reader.specs.Columns.{rowOf, Columns, columns, equalLengths, filledWith, columnsWith, closingOf, FilledBy}
 use Rattle.reader.specs.declared.Row.{Row}
 use Rattle.reader.specs.declared.Closing.{Closing}
 use Rattle.reader.specs.declared.Filled.{Filled as Answer}
 
--- what an answer on the bytes from a position on says: such a part of a slice is all that is left of it
-pub answered : (st : State) (last : Bool) (s : List ℕ) (at : ℕ) (x y : Next) → answerOf x ≡ read last (rule st) (take (length s - at) (drop at s)) → x ≡ y → read last (rule st) (drop at s) ≡ answerOf y
-answered st last s at x y e q = ap (read last (rule st)) (sym (take-all (length s - at) (drop at s) (omega (arith, length-drop at s)))) ∙ sym e ∙ ap answerOf q
-
 -- ---- a column
 
-pub length-filled : (f : Row → Float) (rows : List Record) (old : List Float) → length rows ≤ length old → length (filledWith f rows old) ≡ length old
+length-filled : (f : Row → Float) (rows : List Record) (old : List Float) → length rows ≤ length old → length (filledWith f rows old) ≡ length old
 length-filled f rows old h = length-append (map (λ r. f (rowOf r)) rows) (drop (length rows) old) ∙ rw (length-map, length-drop) (omega arith)
 
-pub filled-set : (f : Row → Float) (rows : List Record) (r : Record) (old : List Float) → length rows < length old → set (filledWith f rows old) (length rows) (f (rowOf r)) ≡ filledWith f (rows ++ (r ∷ [])) old
+filled-set : (f : Row → Float) (rows : List Record) (r : Record) (old : List Float) → length rows < length old → set (filledWith f rows old) (length rows) (f (rowOf r)) ≡ filledWith f (rows ++ (r ∷ [])) old
 filled-set f rows r [] h = absurd (omega arith)
 filled-set f [] r (y ∷ ys) h = refl
 filled-set f (x ∷ xs) r (y ∷ ys) h = ap (λ l. f (rowOf x) ∷ l) (filled-set f xs r ys (le-of-suc-le-suc h))
@@ -43,7 +39,14 @@ pub record Even (n : ℕ) (c : Columns) : Type 0 where
   pub unscaled : length (c .unscaled) ≡ n
   pub scaled : length (c .scaled) ≡ n
 
-pub even-filled : (n : ℕ) (rows : List Record) (old : Columns) → length rows ≤ n → Even n old → Even n (columnsWith rows old)
+pub even-if : (c : Columns) → equalLengths c ≡ true → Even (length (c .time)) c
+even-if c e =
+    let n = length (c .time) in
+    let p = and-yes (eqb (length (c .axis)) n) (eqb (length (c .unscaled)) n && eqb (length (c .scaled)) n) (subst T (sym e) tt) in
+    let q = and-yes (eqb (length (c .unscaled)) n) (eqb (length (c .scaled)) n) (p .1) in
+    record { time = refl; axis = eqb→eq (length (c .axis)) n (p .0); unscaled = eqb→eq (length (c .unscaled)) n (q .0); scaled = eqb→eq (length (c .scaled)) n (q .1) }
+
+even-filled : (n : ℕ) (rows : List Record) (old : Columns) → length rows ≤ n → Even n old → Even n (columnsWith rows old)
 even-filled n rows old h e = record {
   time = length-filled (λ r. r .time) rows (old .time) (omega (arith, e .time)) ∙ e .time;
   axis = length-filled (λ r. r .axis) rows (old .axis) (omega (arith, e .axis)) ∙ e .axis;
@@ -52,7 +55,7 @@ even-filled n rows old h e = record {
 }
 
 -- a row put at a place of all four
-abbrev pub putRow : Columns → ℕ → Row → Columns
+abbrev putRow : Columns → ℕ → Row → Columns
 putRow c i r = columns (set (c .time) i (r .time)) (set (c .axis) i (r .axis)) (set (c .unscaled) i (r .unscaled)) (set (c .scaled) i (r .scaled))
 
 put-next : (n : ℕ) (rows : List Record) (r : Record) (old : Columns) → length rows < n → Even n old → putRow (columnsWith rows old) (length rows) (rowOf r) ≡ columnsWith (rows ++ (r ∷ [])) old

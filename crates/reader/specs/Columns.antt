@@ -6,13 +6,15 @@ use Prim.Native.Nat.{ℕ}
 use lib.Dec.{eqb}
 use lib.ListN.{length, drop}
 use lib.Ieee.{Float, binary64, ofBits}
-use Rattle.rules.specs.Rule.{Stop, refused}
+use denote.Ref.{RefT, now}
+use denote.Triple.Both.{Both}
+use Rattle.rules.specs.Rule.{refused}
 use Rattle.rules.specs.Calls.{Answer, full, stopped, Reading, nothing, readUpTo}
 use Rattle.error.specs.Number.{stopOf}
 use Rattle.chemstation.specs.Next.{rule}
-use Rattle.chemstation.specs.declared.State.{State}
-use Rattle.chemstation.specs.declared.Record.{Record}
-use Rattle.chemstation.specs.declared.Record.the-variants.{Trace, Mass, Spectrum}
+use Rattle.streams.specs.declared.State.{State}
+use Rattle.streams.specs.declared.Record.{Record}
+use Rattle.streams.specs.declared.Record.the-variants.{Trace, Mass, Spectrum}
 use Rattle.reader.specs.declared.Row.{Row}
 use Rattle.reader.specs.declared.Closing.{Closing}
 use Rattle.reader.specs.declared.Closing.the-variants.{Full, Stopped}
@@ -34,8 +36,22 @@ pub record Columns : Type 0 where
 abbrev pub columns : List Float → List Float → List Float → List Float → Columns
 columns t a u s = record { time = t; axis = a; unscaled = u; scaled = s }
 
+-- a contract sees lent memory twice: as it was lent (`.entry`) and as it is given back (`.exit`)
+abbrev pub Lent : Type 0 → Type 0
+Lent A = Both (RefT A) (RefT A)
+
+-- the four columns before and after, as one
+abbrev pub lentColumns : Lent (List Float) → Lent (List Float) → Lent (List Float) → Lent (List Float) → Both Columns Columns
+lentColumns t a u s = record {
+  entry = columns (now (t .entry)) (now (a .entry)) (now (u .entry)) (now (s .entry));
+  exit = columns (now (t .exit)) (now (a .exit)) (now (u .exit)) (now (s .exit));
+}
+
+abbrev pub allEqual : ℕ → ℕ → ℕ → ℕ → Bool
+allEqual t a u s = eqb a t && (eqb u t && eqb s t)
+
 abbrev pub equalLengths : Columns → Bool
-equalLengths c = eqb (length (c .axis)) (length (c .time)) && (eqb (length (c .unscaled)) (length (c .time)) && eqb (length (c .scaled)) (length (c .time)))
+equalLengths c = allEqual (length (c .time)) (length (c .axis)) (length (c .unscaled)) (length (c .scaled))
 
 -- a column: a place for each record, and 'places from the count on keep what they held'
 abbrev pub filledWith : (Row → Float) → List Record → List Float → List Float
@@ -64,3 +80,7 @@ pub record FilledBy (g : Reading State Record) (r : Filled) (old new : Columns) 
   pub state : r .state ≡ g .state
   pub closing : closingOf (r .closing) ≡ g .closing
   pub columns : new ≡ columnsWith (g .records) old
+
+-- Fill columns: the answer r and the lent columns c, from a state and the bytes
+abbrev pub Fills : State → List ℕ → Bool → Filled → Both Columns Columns → Type 0
+Fills st s last r c = FilledBy (fillOf st s last (c .entry)) r (c .entry) (c .exit)

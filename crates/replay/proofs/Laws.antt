@@ -1,6 +1,6 @@
 -- What is opened and fetched lies within the bytes that were lent.
 use mathlib.Core.Path.{_≡_, refl, sym, ap, _∙_}
-use mathlib.Core.Bool.{Bool, true, false, cond}
+use mathlib.Core.Bool.{Bool, true, false, cond, false≢true}
 use mathlib.Core.List.{List}
 use Prim.Native.Nat.{ℕ, _≤_}
 use native.Mathlib.Omega.{arith}
@@ -9,18 +9,18 @@ use lib.ListN.{length}
 use borrow.Author.Tests.{leb-true}
 use Rattle.rules.specs.Rule.{Read, got, stops, read, mapRead}
 use Rattle.rules.proofs.Laws.{got≢stops, taken-within}
-use Rattle.agilent.specs.Metadata.{Header, openRule}
-use Rattle.agilent.specs.Fetch.{wrote, refuse, fetched, outcomeOf, Fetches}
-use Rattle.agilent.specs.declared.metadata.Fetched.{Fetched}
-use Rattle.agilent.specs.declared.metadata.Fetched.the-variants.{Text}
-use Rattle.chemstation.specs.declared.State.{State}
-use Rattle.reader.specs.Opening.{begins, startRead, OpensRun}
-use Rattle.reader.specs.declared.Opening.the-variants.{Run}
-use Rattle.reader.specs.declared.OpenedRun.{OpenedRun}
+use Rattle.metadata.specs.Metadata.{Header, openRule}
+use Rattle.fetch.specs.Fetch.{wrote, refuse, fetched, outcomeOf, Fetches}
+use Rattle.fetch.specs.declared.Fetched.{Fetched}
+use Rattle.fetch.specs.declared.Fetched.the-variants.{Text}
+use Rattle.streams.specs.declared.State.{State}
+use Rattle.opening.specs.Opening.{begins, startRead, OpensRun}
+use Rattle.opening.specs.declared.Opening.the-variants.{Run}
+use Rattle.opening.specs.declared.OpenedRun.{OpenedRun}
 
 -- a text is written, or there is a refusal
 wrote≢refuse : {n c : ℕ} → ¬ (wrote n ≡ refuse c)
-wrote≢refuse e = let o : _≡_ {A = ℕ} 0 1 = cc in omega arith
+wrote≢refuse e = false≢true cc
 
 pub fetched-inside : (r : Fetched) (n : ℕ) (old new : List ℕ) (x : Read (List ℕ)) → Fetches r old new x → r ≡ Text n → n ≤ length old
 fetched-inside r n old new x f e = by x (ap outcomeOf (sym e) ∙ f .answer)

@@ -1,14 +1,14 @@
 // Answers stored cases: frames from standard input, the texts of the answers to standard output.
-use agilent::HeaderSize;
-use agilent::fetch::fetch_text;
-use agilent::metadata::ChemstationMetadata;
-use agilent::metadata::Fetched;
-use chemstation::State;
 use error::Stopped;
+use fetch::Fetched;
+use fetch::fetch_text;
 use libc::STDIN_FILENO;
 use libc::STDOUT_FILENO;
+use metadata::ChemstationMetadata;
+use metadata::Opened;
+use opening::Opening;
 use reader::Closing;
-use reader::Opening;
+use streams::State;
 ghost use Prim.Native.Nat.{_+_, _*_, _≤_, _<_};
 ghost use mathlib.Core.Path.{_≡_};
 ghost use lib.ListN.{length};
@@ -52,7 +52,7 @@ fn put_hex(out: &mut [u8], at: usize, text: &[u8], n: usize) -> usize
     let mut a = at;
     let mut i: usize = 0;
     while i < n {
-        a = log::put_digits(out, a, 16, 2, wide(text[i]));
+        a = digits::put_digits(out, a, 16, 2, wide(text[i]));
         i += 1;
     }
     a
@@ -64,28 +64,28 @@ fn put_numbers(out: &mut [u8], at: usize, d: ChemstationMetadata) -> usize
     requires { ⌜ at + 65 ≤ length (now out) ⌝ }
     ensures { λ r. ⌜ r ≤ at + 65 ⌝ }
 {
-    let a = log::put_letter(out, at, b'n');
-    let b = log::put_number(out, a, d.sequence as u64, b' ');
-    let c = log::put_number(out, b, d.vial as u64, b' ');
-    log::put_number(out, c, d.replicate as u64, b'\n')
+    let a = lines::put_letter(out, at, b'n');
+    let b = digits::put_number(out, a, d.sequence as u64, b' ');
+    let c = digits::put_number(out, b, d.vial as u64, b' ');
+    digits::put_number(out, c, d.replicate as u64, b'\n')
 }
 
 fn put_doubles(out: &mut [u8], at: usize, d: ChemstationMetadata) -> usize
     requires { ⌜ at + 70 ≤ length (now out) ⌝ }
     ensures { λ r. ⌜ r ≤ at + 70 ⌝ }
 {
-    let a = log::put_letter(out, at, b'd');
-    let b = log::put_double(out, a, d.start_time, b' ');
-    let c = log::put_double(out, b, d.end_time, b' ');
-    let e = log::put_double(out, c, d.offset_correction, b' ');
-    log::put_double(out, e, d.mult_correction, b'\n')
+    let a = lines::put_letter(out, at, b'd');
+    let b = lines::put_double(out, a, d.start_time, b' ');
+    let c = lines::put_double(out, b, d.end_time, b' ');
+    let e = lines::put_double(out, c, d.offset_correction, b' ');
+    lines::put_double(out, e, d.mult_correction, b'\n')
 }
 
 fn put_description(out: &mut [u8], at: usize, d: ChemstationMetadata) -> usize
     requires { ⌜ at + 4096 ≤ length (now out) ⌝ }
     ensures { λ r. ⌜ r ≤ length (now (out .entry)) ⌝ }
 {
-    let a = log::put_header(out, at, d.edition, d.size);
+    let a = lines::put_header(out, at, d.edition, d.size);
     let b = put_numbers(out, a, d);
     put_doubles(out, b, d)
 }
@@ -95,10 +95,10 @@ fn put_found(number: u8, text: &[u8], n: usize, out: &mut [u8], at: usize) -> us
     requires { ⌜ (n ≤ length (now text)) × (n ≤ 1024) × (at + 4096 ≤ length (now out)) ⌝ }
     ensures { λ r. ⌜ r ≤ length (now (out .entry)) ⌝ }
 {
-    let a = log::put_letter(out, at, b't');
-    let b = log::put_number(out, a, number as u64, b' ');
+    let a = lines::put_letter(out, at, b't');
+    let b = digits::put_number(out, a, number as u64, b' ');
     let c = put_hex(out, b, text, n);
-    log::put_byte(out, c, b'\n')
+    digits::put_byte(out, c, b'\n')
 }
 
 // The line of a text by its number, fetched into lent memory. What is refused has a closing line.
@@ -107,7 +107,7 @@ fn put_text(kind: u8, number: u8, s: &[u8], lent: &mut [u8], out: &mut [u8], at:
     ensures { λ r. ⌜ r ≤ length (now (out .entry)) ⌝ }
 {
     match fetch_text(kind, number, s, lent) {
-        Fetched::Refused(r) => log::put_end(out, at, Stopped::Refused(r), 0),
+        Fetched::Refused(r) => lines::put_end(out, at, Stopped::Refused(r), 0),
         Fetched::Text(n) => put_found(number, lent, n, out, at),
     }
 }
@@ -132,11 +132,15 @@ fn header_case(kind: u8, s: &[u8], out: &mut [u8], at: usize) -> usize
     requires { ⌜ (at + 4096 ≤ length (now out)) × (32768 ≤ length (now out)) ⌝ }
     ensures { λ r. ⌜ r ≤ length (now (out .entry)) ⌝ }
 {
-    let o = agilent::open_header(kind, s, true);
+    let o = metadata::open_header(kind, s, true);
     let answer = o.answer;
     match answer {
-        HeaderSize::Stopped(z) => log::put_end(out, at, z, 0),
-        HeaderSize::Bytes(_) => {
+        Opened::Stopped(z) => lines::put_end(out, at, z, 0),
+        Opened::Header {
+            size: _,
+            scans: _,
+            time_step: _,
+        } => {
             let d = o.metadata;
             let a = put_description(out, at, d);
             put_texts(kind, s, out, a)
@@ -156,7 +160,7 @@ fn put_records(st: State, s: &[u8], from: usize, last: bool, out: &mut [u8], at:
     let a = room(out, w.at);
     match closing {
         Closing::Full => complain(out, a, b"? a text longer than the buffer\n"),
-        Closing::Stopped(z) => log::put_end(out, a, z, w.count),
+        Closing::Stopped(z) => lines::put_end(out, a, z, w.count),
     }
 }
 
@@ -164,13 +168,13 @@ fn log_case(kind: u8, s: &[u8], last: bool, out: &mut [u8], at: usize) -> usize
     requires { ⌜ (at + 4096 ≤ length (now out)) × (32768 ≤ length (now out)) ⌝ }
     ensures { λ r. ⌜ r ≤ length (now (out .entry)) ⌝ }
 {
-    let o = reader::open_run(kind, s, last);
+    let o = opening::open_run(kind, s, last);
     let answer = o.answer;
     let d = o.metadata;
     match answer {
-        Opening::Stopped(z) => log::put_end(out, at, z, 0),
+        Opening::Stopped(z) => lines::put_end(out, at, z, 0),
         Opening::Run(state, n) => {
-            let a = log::put_header(out, at, d.edition, d.size);
+            let a = lines::put_header(out, at, d.edition, d.size);
             put_records(state, s, n, last, out, a)
         }
     }
@@ -201,7 +205,14 @@ fn fetch_case(s: &[u8], out: &mut [u8], at: usize) -> usize
     }
     let mut lent = [0u8; 1024];
     let n = wide(s[1]) as usize;
-    put_text(log::kind_of(s[2]), s[0], &s[3..], &mut lent[0..n], out, at)
+    put_text(
+        digits::kind_of(s[2]),
+        s[0],
+        &s[3..],
+        &mut lent[0..n],
+        out,
+        at,
+    )
 }
 
 // The case of a frame: a letter, a kind digit that may be missing, and the file.
@@ -210,8 +221,8 @@ fn put_case(s: &[u8], number: u64, out: &mut [u8], at: usize) -> usize
     ensures { λ r. ⌜ r ≤ length (now (out .entry)) ⌝ }
 {
     let a = room(out, at);
-    let b = log::put_letter(out, a, b'=');
-    let c = log::put_number(out, b, number, b'\n');
+    let b = lines::put_letter(out, a, b'=');
+    let c = digits::put_number(out, b, number, b'\n');
     if s.len() == 0 {
         return complain(out, c, b"? an empty frame\n");
     }
@@ -221,7 +232,7 @@ fn put_case(s: &[u8], number: u64, out: &mut [u8], at: usize) -> usize
     if s.len() == 1 {
         return answer(s[0], 0, b"", out, c);
     }
-    answer(s[0], log::kind_of(s[1]), &s[2..], out, c)
+    answer(s[0], digits::kind_of(s[1]), &s[2..], out, c)
 }
 
 // ---- input

@@ -1,13 +1,13 @@
 -- Told that the bytes are the last or not, a reading differs only at a due field that ends past them.
 use mathlib.Core.Path.{_≡_, refl, sym, ap, _∙_, subst}
 use mathlib.Core.Logic.{_⊎_, inl, inr}
-use mathlib.Core.Bool.{Bool, true, false}
+use mathlib.Core.Bool.{Bool, true, false, false≢true}
 use mathlib.Core.List.{List, [], _∷_}
-use Prim.Native.Nat.{ℕ, zero, suc, _+_, _≤_, _<_}
+use Prim.Native.Nat.{ℕ, zero, suc, _≤_, _<_}
 use native.Mathlib.Omega.{arith}
 use lib.ListN.{length, take, drop}
 use Rattle.rules.specs.Rule.{Rule, gives, field, refuses, ends, Stop, refused, finished, moreBytes, Read, got, stops, taking, lacks, read, EndsPast, EndsBefore, AtEnd, ToldLast}
-use Rattle.rules.specs.Calls.{Item, Answer, full, stopped, Reading, nothing, ahead, goOn, readUpTo, SameToEnd}
+use Rattle.rules.specs.Calls.{Item, full, stopped, Reading, nothing, ahead, goOn, readUpTo, SameToEnd}
 use Rattle.rules.proofs.Laws.{got≢stops, waiting?, by-fit, read-fits, read-past, taking-stops, waits-iff}
 
 -- a field that ends past the bytes, and one behind a field that fits
@@ -15,7 +15,7 @@ missing : {A : Type 0} (may : Bool) (w : ℕ) (k : List ℕ → Rule A) (bs : Li
 unfolding EndsBefore
 missing true w k [] h = inl (inl (refl, refl, h), refl)
 missing true w k (b ∷ bs) h = inr (elim [ inl q ↦ absurd (omega (arith, ap length (q .1))) | inr q ↦ omega arith ], refl)
-missing false w k bs h = inr (elim [ inl q ↦ let o : _≡_ {A = ℕ} 0 1 = cc (q .0) in omega arith | inr q ↦ omega arith ], refl)
+missing false w k bs h = inr (elim [ inl q ↦ false≢true (cc (q .0)) | inr q ↦ omega arith ], refl)
 
 behind : {A : Type 0} (may : Bool) (w : ℕ) (k : List ℕ → Rule A) (bs : List ℕ) {y : Read A} → w ≤ length bs → AtEnd (k (take w bs)) (drop w bs) y → AtEnd (field may w k) bs (taking w y)
 unfolding EndsBefore
@@ -58,7 +58,7 @@ module _ {S R : Type 0} where
 module _ {S R : Type 0} (rule : S → Rule (Item S R)) where
   pub same-to-end : (n : ℕ) (st : S) (bs : List ℕ) → SameToEnd (readUpTo rule false n st bs) (readUpTo rule true n st bs)
   unfolding readUpTo
-  same-to-end zero st bs = same (nothing st full) λ e. let o : _≡_ {A = ℕ} 0 1 = cc in omega arith
+  same-to-end zero st bs = same (nothing st full) λ e. false≢true cc
   same-to-end (suc n) st bs = go (λ st′ bs′. same-to-end n st′ bs′) (read false (rule st) bs) refl
     where
       onward : Bool → S → List ℕ → Reading S R

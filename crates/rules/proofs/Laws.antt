@@ -1,7 +1,7 @@
 -- Laws of `read`: a due field by whether it fits, rules one behind the other, mapped rules; what 'more bytes' says; and that bytes behind change nothing else.
 use mathlib.Core.Path.{_≡_, refl, sym, ap, _∙_, subst, subst₂}
 use mathlib.Core.Logic.{_↔_, _⊎_, inl, inr}
-use mathlib.Core.Bool.{Bool, true, false}
+use mathlib.Core.Bool.{Bool, true, false, false≢true}
 use mathlib.Core.List.{List, _++_}
 use Prim.Native.Nat.{ℕ, _+_, _≤_, _<_}
 use native.Mathlib.Nat.{zero-add, add-zero, add-assoc}
@@ -10,16 +10,16 @@ use lib.ListN.{length, take, drop, length-append, length-drop}
 use lib.Seq.{take-append-le, drop-append-le, drop-drop}
 use lib.Dec.{leb}
 use borrow.Author.Tests.{leb-true, leb-false, le-leb, lt-leb}
-use Rattle.rules.specs.Rule.{Rule, gives, field, refuses, ends, Stop, refused, finished, moreBytes, Read, got, stops, taking, lacks, read, EndsPast, _>>=_, number, mayEnd, mapRule, mapRead}
+use Rattle.rules.specs.Rule.{Rule, gives, field, refuses, ends, Stop, refused, finished, moreBytes, Read, got, stops, taking, lacks, read, EndsPast, _>>=_, mapRule, mapRead}
 
 -- ---- answers are told apart
 
 pub got≢stops : {A : Type 0} {a : A} {n : ℕ} {z : Stop} → ¬ (got a n ≡ stops z)
-got≢stops e = let o : _≡_ {A = ℕ} 0 1 = cc in omega arith
+got≢stops e = false≢true cc
 
 pub waiting? : (z : Stop) → (z ≡ moreBytes) ⊎ (¬ (z ≡ moreBytes))
-waiting? (refused c) = inr λ e. let o : _≡_ {A = ℕ} 0 1 = cc in omega arith
-waiting? finished = inr λ e. let o : _≡_ {A = ℕ} 0 1 = cc in omega arith
+waiting? (refused c) = inr λ e. false≢true cc
+waiting? finished = inr λ e. false≢true cc
 waiting? moreBytes = inl refl
 
 -- ---- a due field
@@ -114,8 +114,8 @@ taken-within {A} last (field may w k) bs {a} {n} e = field-by (λ m q. taken-wit
 pub waits-iff : {A : Type 0} (r : Rule A) (bs : List ℕ) → (read false r bs ≡ stops moreBytes) ↔ EndsPast r bs
 unfolding read EndsPast
 waits-iff (gives a) bs = ((λ e. got≢stops e), λ h. absurd h)
-waits-iff (refuses c) bs = ((λ e. let o : _≡_ {A = ℕ} 0 1 = cc in omega arith), λ h. absurd h)
-waits-iff ends bs = ((λ e. let o : _≡_ {A = ℕ} 0 1 = cc in omega arith), λ h. absurd h)
+waits-iff (refuses c) bs = ((λ e. false≢true cc), λ h. absurd h)
+waits-iff ends bs = ((λ e. false≢true cc), λ h. absurd h)
 waits-iff {A} (field may w k) bs = field-by (waits-iff (k (take w bs)) (drop w bs))
   where
     onward : Read A

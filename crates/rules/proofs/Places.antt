@@ -7,8 +7,8 @@ use native.Mathlib.Nat.{add-zero}
 use native.Mathlib.Omega.{arith}
 use lib.ListN.{length, take, drop, length-drop}
 use lib.Seq.{drop-drop}
-use Rattle.rules.specs.Rule.{Rule, gives, field, refuses, ends, Stop, refused, finished, moreBytes, Read, got, stops, taking, lacks, read, readAt, _>>=_, number, mayEnd}
-use Rattle.rules.proofs.Laws.{by-fit, read-fits, read-past, taking-none, taking-twice, readThen, read-then}
+use Rattle.rules.specs.Rule.{Rule, gives, field, refuses, ends, Stop, got, stops, taking, lacks, read, readAt, _>>=_, number, mayEnd}
+use Rattle.rules.proofs.Laws.{by-fit, read-fits, read-past, taking-none, taking-twice}
 
 pub at-start : {A : Type 0} (last : Bool) (r : Rule A) (s : List ℕ) → readAt last r 0 s ≡ read last r s
 at-start last r s = taking-none (read last r s)
@@ -28,18 +28,6 @@ pub at-number : {A B : Type 0} (last : Bool) (w : ℕ) (g : List ℕ → A) (f :
     readAt last (number w g >>= f) at s ≡ readAt last (f (g (take w (drop at s)))) (at + w) s
 unfolding _>>=_
 at-number last w g f at s h = at-field last false w (λ bs. f (g bs)) at s h
-
--- one rule behind another
-abbrev pub thenAt : {A B : Type 0} → Bool → List ℕ → (A → Rule B) → Read A → Read B
-thenAt last s f (got a n) = readAt last (f a) n s
-thenAt last s f (stops z) = stops z
-
-pub at-then : {A B : Type 0} (last : Bool) (r : Rule A) (f : A → Rule B) (at : ℕ) (s : List ℕ) → readAt last (r >>= f) at s ≡ thenAt last s f (readAt last r at s)
-at-then {A} last r f at s = ap (taking at) (read-then last r f (drop at s)) ∙ go (read last r (drop at s))
-  where
-    go : (x : Read A) → taking at (readThen last (drop at s) f x) ≡ thenAt last s f (taking at x)
-    go (got a n) = taking-twice at n (read last (f a) (drop n (drop at s))) ∙ ap (λ bs. taking (at + n) (read last (f a) bs)) (drop-drop n at s)
-    go (stops z) = refl
 
 -- ---- a rule that is cut
 

@@ -7,7 +7,7 @@ use lib.IntN.{ℤ, pos, natAbs}
 use lib.Ieee.{Float, binary64}
 use Rattle.floats.specs.Wholes.{Sum, flat, doubles, wholes}
 use Rattle.floats.proofs.Running.{Running, running-start, running-step, Sloping, sloping-start}
-use Rattle.chemstation.specs.Changes.{Change, clears, adds, slopes, becomes, restarts, changed, after}
+use Rattle.streams.specs.Changes.{Change, clears, adds, slopes, becomes, restarts, changed, after}
 use Rattle.floats.specs.Doubles.{double}
 use Rattle.whole.specs.Whole.{counted}
 

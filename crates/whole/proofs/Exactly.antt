@@ -14,10 +14,13 @@ use Rattle.common.specs.Bytes.{AreBytes}
 use Rattle.common.proofs.Sizes.{bytes-drop}
 use Rattle.common.proofs.Every.{Every, Gets, gets}
 use Rattle.floats.specs.Wholes.{Sum, flat, wholes}
-use Rattle.chemstation.specs.Streams.{Told, fields, sumOf}
-use Rattle.chemstation.specs.Next.{stepped, rule}
+use Rattle.streams.specs.Told.{Told}
+use Rattle.chemstation.specs.Next.{fields}
+use Rattle.streams.specs.Next.{sumOf}
+use Rattle.streams.specs.Next.{stepped}
+use Rattle.chemstation.specs.Next.{rule}
 use Rattle.whole.specs.Whole.{Whole, summed, wholeRule, atOpen, Begins, kindOf, Kind, Within, Exact, AllExact, ExactReadings}
-use Rattle.chemstation.specs.declared.State.{State}
+use Rattle.streams.specs.declared.State.{State}
 use Rattle.whole.proofs.Kept.{Holds, holds-exact, begins-holds, Keeps, keeps}
 
 abbrev whole : State → Sum ℤ → ℕ → Whole

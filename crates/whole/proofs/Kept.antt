@@ -13,23 +13,34 @@ use Rattle.common.proofs.Sizes.{Order, be-below, le-below}
 use Rattle.common.proofs.Every.{Every, at-gives, at-refuses, at-ends, every-then, every-cond, every-may-end, any, unsigned, twos-complement}
 use Rattle.floats.specs.Wholes.{IsWhole, Sum, flat, doubles, wholes}
 use Rattle.floats.proofs.Running.{sloping-step, sloping-within, restart}
-use Rattle.chemstation.specs.Changes.{Change, clears, slopes, restarts, changed, after}
-use Rattle.chemstation.specs.Streams.{Made, Told, told, isInt, delta, changeOf, widthOf, fields, sumOf}
-use Rattle.chemstation.specs.Streams.{fidMade, fidRule, msMade, msValue, msPoint, msScans, msRule, mwdPoint, mwdRule, dadPoint, dadScan, dadRule, uvPoint, uvScan, uvRule, arrayMade, stored, arrayRule}
-use Rattle.chemstation.specs.Next.{stepped}
+use Rattle.streams.specs.Changes.{Change, clears, slopes, restarts, changed, after}
+use Rattle.streams.specs.Told.{Made, Told, told, isInt, delta, changeOf}
+use Rattle.dad.specs.Dad.{widthOf}
+use Rattle.chemstation.specs.Next.{fields}
+use Rattle.streams.specs.Next.{sumOf}
+use Rattle.fid.specs.Fid.{fidMade, fidRule}
+use Rattle.ms.specs.Ms.{msMade, msValue, msPoint, msScans, msScanning, msRule}
+use Rattle.mwd.specs.Mwd.{mwdPoint, mwdRule}
+use Rattle.dad.specs.Dad.{dadPoint, dadBegun, dadScan, dadOnward, dadScanning, dadRule}
+use Rattle.uv.specs.Uv.{uvPoint, uvBegun, uvScan, uvLeft, uvScanning, uvRule}
+use Rattle.array.specs.Array.{arrayMade, stored, arrayRule}
+use Rattle.streams.specs.Next.{stepped}
 use Rattle.whole.specs.Whole.{counted, summed, dueOf, Begins, Kind, fid, ms, mwd, dad, uv, array, kindOf, Within, unscaledOf}
-use Rattle.chemstation.specs.declared.chemstation.ChemstationFidState.{ChemstationFidState}
-use Rattle.chemstation.specs.declared.chemstation.ChemstationMsState.{ChemstationMsState}
-use Rattle.chemstation.specs.declared.chemstation.ChemstationMwdState.{ChemstationMwdState}
-use Rattle.chemstation.specs.declared.chemstation.ChemstationDadState.{ChemstationDadState}
-use Rattle.chemstation.specs.declared.chemstation_new.ChemstationUvState.{ChemstationUvState}
-use Rattle.chemstation.specs.declared.chemstation_new.ChemstationArrayState.{ChemstationArrayState}
-use Rattle.chemstation.specs.declared.chemstation_new.ChemstationArrayRecordType.{ChemstationArrayRecordType}
-use Rattle.chemstation.specs.declared.chemstation_new.ChemstationArrayRecordType.the-variants.{Float32Array, Float64Array}
-use Rattle.chemstation.specs.declared.Delta.{Delta}
-use Rattle.chemstation.specs.declared.Delta.the-variants.{By, Absolute}
-use Rattle.chemstation.specs.declared.State.{State}
-use Rattle.chemstation.specs.declared.State.the-variants.{Fid, Ms, Mwd, Dad, Uv, Array}
+use Rattle.streams.specs.declared.ChemstationFidState.{ChemstationFidState}
+use Rattle.streams.specs.declared.ChemstationMsState.{ChemstationMsState}
+use Rattle.streams.specs.declared.ChemstationMwdState.{ChemstationMwdState}
+use Rattle.streams.specs.declared.ChemstationDadState.{ChemstationDadState}
+use Rattle.streams.specs.declared.ChemstationUvState.{ChemstationUvState}
+use Rattle.streams.specs.declared.ChemstationArrayState.{ChemstationArrayState}
+use Rattle.streams.specs.declared.ChemstationArrayRecordType.{ChemstationArrayRecordType}
+use Rattle.streams.specs.declared.ChemstationArrayRecordType.the-variants.{Float32Array, Float64Array}
+use Rattle.streams.specs.Scanning.{Scanning, scanning}
+use Rattle.streams.specs.declared.Scans.{Scans}
+use Rattle.streams.specs.declared.Points.{Points}
+use Rattle.streams.specs.declared.Delta.{Delta}
+use Rattle.streams.specs.declared.Delta.the-variants.{By, Absolute}
+use Rattle.streams.specs.declared.State.{State}
+use Rattle.streams.specs.declared.State.the-variants.{Fid, Ms, Mwd, Dad, Uv, Array}
 use Rattle.whole.proofs.Adding.{Adds, Fair, AllFair, all-fair, adds-start, adds-all, Slopes, slopes-start}
 
 -- a state's value, the added-up value and its deltas
@@ -88,6 +99,11 @@ module _ (k : Kind) (s : Sum Float) (w : Sum ℤ) (n : ℕ) where
     pub shown : Within k ((summed w n t) .shows .deltas) → unscaledOf ((stepped s t) .shows) ≡ (sumOf ((stepped s t) .after)) .value
     pub same : fields ((stepped s t) .after) ≡ fields ((summed w n t) .after .state)
 
+-- records that come in scans
+every-scanning : {P : Told → Type 0} (f : Scanning) → Every P (f .scan) → (¬ (f .due ≡ 0) → Every P (f .point)) → Every P (scanning f)
+unfolding scanning
+every-scanning f new within = every-cond (f .done) (λ t. at-ends) (λ t. every-cond (eqb (f .due) 0) (λ t. new) (λ t. within (eqb-false (f .due) 0 t)))
+
 module _ {s : Sum Float} {w : Sum ℤ} {n : ℕ} where
   fid-keeps : (st : ChemstationFidState) → Slopes s w n → Every (Keeps fid s w n) (fidRule st)
   unfolding fidRule
@@ -99,14 +115,14 @@ module _ {s : Sum Float} {w : Sum ℤ} {n : ℕ} where
       kept : (c : Change) → Slopes (changed doubles s c) (changed wholes w c) (counted n c) → Keeps fid s w n (told (fidMade st) (c ∷ []))
       kept c h = record { kind = refl; holds = h; shown = λ i. refl; same = refl }
 
-  ms-point : (scans points : ℕ) (time : Float) → Adds s w n → Every (Keeps ms s w n) (msPoint scans points time)
-  unfolding msPoint msRule
+  ms-point : (scans : Scans) (points : Points) (time : Float) → Adds s w n → Every (Keeps ms s w n) (msPoint scans points time)
+  unfolding msPoint
   ms-point scans points time h =
-      every-then any λ m _. every-then (unsigned be-below 2) λ r l. every-cond (eqb points 1)
-      (λ t. every-then any λ _ _. at-gives (kept (scans - 1) 0 m r l))
-      (λ t. at-gives (kept scans (points - 1) m r l))
+      every-then any λ m _. every-then (unsigned be-below 2) λ r l. every-cond (eqb (points .0) 1)
+      (λ t. every-then any λ _ _. at-gives (kept _ _ m r l))
+      (λ t. at-gives (kept _ _ m r l))
     where
-      kept : (scans points m r : ℕ) → r < 65536 → Keeps ms s w n (told (msMade scans points time m) (msValue r ∷ []))
+      kept : (scans : Scans) (points : Points) (m r : ℕ) → r < 65536 → Keeps ms s w n (told (msMade scans points time m) (msValue r ∷ []))
       kept scans points m r l = record { kind = refl; holds = (adds-all (msValue r ∷ []) s w n (mass-fair r l, tt) h, omega arith); shown = λ i. refl; same = refl }
 
   ms-scans : (scans : ℕ) → Adds s w n → Every (Keeps ms s w n) (msScans scans)
@@ -114,11 +130,10 @@ module _ {s : Sum Float} {w : Sum ℤ} {n : ℕ} where
   ms-scans zero h = at-ends
   ms-scans (suc scans) h =
       every-then any λ c _. every-cond (ltb c 14) (λ t. at-refuses)
-      (λ t. every-then any λ time _. every-then any λ _ _. every-cond (eqb ((c - 14) / 2) 0) (λ t. every-then any λ _ _. ms-scans scans h) (λ t. ms-point (suc scans) ((c - 14) / 2) _ h))
+      (λ t. every-then any λ time _. every-then any λ _ _. every-cond (eqb ((c - 14) / 2) 0) (λ t. every-then any λ _ _. ms-scans scans h) (λ t. ms-point _ _ _ h))
 
   ms-keeps : (st : ChemstationMsState) → Adds s w n → Every (Keeps ms s w n) (msRule st)
-  unfolding msRule
-  ms-keeps st h = every-cond (eqb (st .«n_scans_left» .0) 0) (λ t. at-ends) (λ t. every-cond (eqb (st .«n_mzs_left» .0) 0) (λ t. ms-scans (st .«n_scans_left» .0) h) (λ t. ms-point _ _ _ h))
+  ms-keeps st h = every-scanning (msScanning st) (ms-scans (st .«n_scans_left» .0) h) (λ z. ms-point _ _ _ h)
 
   -- a point of MWD, DAD or UV
   point : {order : List ℕ → ℕ} (k : Kind) (m : Delta → Made) (first : List Change) → Order order → AllFair first → Adds s w n →
@@ -128,45 +143,43 @@ module _ {s : Sum Float} {w : Sum ℤ} {n : ℕ} where
 
   mwd-keeps : (st : ChemstationMwdState) → Adds s w n → Every (Keeps mwd s w n) (mwdRule st)
   unfolding mwdRule mwdPoint
-  mwd-keeps st h = every-may-end (every-cond (eqb (st .«n_wvs_left» .0) 0) (λ t. every-then any λ group _. every-cond (eqb (group % 4096) 0) (λ t. at-ends) (λ t. here (group % 4096))) (λ t. here (st .«n_wvs_left» .0)))
+  mwd-keeps st h = every-may-end (every-cond (eqb (st .«n_wvs_left» .0) 0) (λ t. every-then any λ group _. every-cond (eqb (group % 4096) 0) (λ t. at-ends) (λ t. here _)) (λ t. here _))
     where
-      here : (points : ℕ) → Every (Keeps mwd s w n) (mwdPoint st points)
+      here : (points : Points) → Every (Keeps mwd s w n) (mwdPoint st points)
       here points = point mwd _ [] be-below tt h λ d r. record { kind = refl; holds = r; shown = λ i. refl; same = refl }
 
-  dad-point : (scans bytes : ℕ) (time wv step : Float) (first : List Change) → AllFair first → Adds s w n → ¬ (bytes ≡ 0) → 2 * foldl counted n first + bytes ≤ 65536 →
-      Every (Keeps dad s w n) (dadPoint scans bytes time wv step first)
-  unfolding dadPoint dadRule
-  dad-point scans bytes time wv step first a h z l =
+  dad-point : (st : ChemstationDadState) (first : List Change) → AllFair first → Adds s w n → ¬ (st .«n_bytes_left» .0 ≡ 0) → 2 * foldl counted n first + st .«n_bytes_left» .0 ≤ 65536 →
+      Every (Keeps dad s w n) (dadPoint st first)
+  unfolding dadPoint
+  dad-point st first a h z l =
       point dad _ first le-below a h
-      λ d r. record { kind = refl; holds = (r, rw (foldl-append counted n first (changeOf d ∷ [])) (dad-few d (foldl counted n first) bytes z l)); shown = λ i. refl; same = refl }
+      λ d r. record { kind = refl; holds = (r, rw (foldl-append counted n first (changeOf d ∷ [])) (dad-few d (foldl counted n first) (st .«n_bytes_left» .0) z l)); shown = λ i. refl; same = refl }
 
   dad-keeps : (st : ChemstationDadState) → Adds s w n → 2 * n + st .«n_bytes_left» .0 ≤ 65536 → Every (Keeps dad s w n) (dadRule st)
-  unfolding dadRule dadScan
+  unfolding dadScan
   dad-keeps st h l =
-      every-cond (eqb (st .«n_scans_left» .0) 0) (λ t. at-ends)
-      (λ t. every-cond (eqb (st .«n_bytes_left» .0) 0)
-      (λ t. every-then any λ type _. every-cond (eqb type 67)
+      every-scanning (dadScanning st)
+      (every-then any λ type _. every-cond (eqb type 67)
       (λ t. every-then (unsigned le-below 2) λ size b. every-then any λ time _. every-then any λ start _. every-then any λ end _. every-then any λ step _. every-then any λ _ _.
-      every-cond (eqb (size - 22) 0) (λ t. at-ends) (λ t. dad-point _ (size - 22) _ _ _ (clears ∷ []) (tt, tt) h (eqb-false (size - 22) 0 t) (omega arith)))
+      every-cond (eqb (size - 22) 0) (λ t. at-ends) (λ t. dad-point (dadBegun (st .«n_scans_left») (size - 22) time start step) (clears ∷ []) (tt, tt) h (eqb-false (size - 22) 0 t) (omega arith)))
       (λ t. at-ends))
-      (λ t. dad-point _ (st .«n_bytes_left» .0) _ _ _ [] tt h (eqb-false (st .«n_bytes_left» .0) 0 t) l))
+      (λ z. dad-point (dadOnward st) [] tt h z l)
 
-  uv-point : (scans points : ℕ) (time wv step mult : Float) (first : List Change) → AllFair first → Adds s w n → ¬ (points ≡ 0) → foldl counted n first + points ≤ 65536 →
-      Every (Keeps uv s w n) (uvPoint scans points time wv step mult first)
-  unfolding uvPoint uvRule
-  uv-point scans points time wv step mult first a h z l =
+  uv-point : (st : ChemstationUvState) (scans : Scans) (first : List Change) → AllFair first → Adds s w n → ¬ (st .«n_wvs_left» .0 ≡ 0) → foldl counted n first + st .«n_wvs_left» .0 ≤ 65536 →
+      Every (Keeps uv s w n) (uvPoint st scans first)
+  unfolding uvPoint uvScan
+  uv-point st scans first a h z l =
       point uv _ first le-below a h
-      λ d r. record { kind = refl; holds = (r, rw (foldl-append counted n first (changeOf d ∷ [])) (uv-few d (foldl counted n first) points z l)); shown = λ i. refl; same = refl }
+      λ d r. record { kind = refl; holds = (r, rw (foldl-append counted n first (changeOf d ∷ [])) (uv-few d (foldl counted n first) (st .«n_wvs_left» .0) z l)); shown = λ i. refl; same = refl }
 
   uv-keeps : (st : ChemstationUvState) → Adds s w n → n + st .«n_wvs_left» .0 ≤ 65536 → Every (Keeps uv s w n) (uvRule st)
-  unfolding uvRule uvScan
+  unfolding uvScan
   uv-keeps st h l =
-      every-cond (eqb (st .«n_scans_left» .0) 0) (λ t. at-ends)
-      (λ t. every-cond (eqb (st .«n_wvs_left» .0) 0)
-      (λ t. every-then any λ _ _. every-then any λ time _. every-then any λ start _. every-then (unsigned le-below 2) λ end b. every-cond (ltb end start) (λ t. at-refuses)
+      every-scanning (uvScanning st)
+      (every-then any λ _ _. every-then any λ time _. every-then any λ start _. every-then (unsigned le-below 2) λ end b. every-cond (ltb end start) (λ t. at-refuses)
       (λ t. every-then any λ step _. every-cond (eqb step 0) (λ t. at-refuses)
-      (λ t. every-then any λ _ _. uv-point _ ((end - start) / step + 1) _ _ _ _ (clears ∷ []) (tt, tt) h (λ z. omega arith) (omega (arith, div-le-self (end - start) step)))))
-      (λ t. uv-point _ (st .«n_wvs_left» .0) _ _ _ _ [] tt h (eqb-false (st .«n_wvs_left» .0) 0 t) l))
+      (λ t. every-then any λ _ _. uv-point (uvBegun st time start end step) (st .«n_scans_left») (clears ∷ []) (tt, tt) h (λ z. omega arith) (omega (arith, div-le-self (end - start) step)))))
+      (λ z. uv-point st (uvLeft st) [] tt h z l)
 
   array-keeps : (st : ChemstationArrayState) → Every (Keeps array s w n) (arrayRule st)
   unfolding arrayRule

@@ -9,14 +9,16 @@ use Rattle.rules.specs.Rule.{Rule, mapRule}
 use Rattle.rules.specs.Calls.{Item, readUpTo}
 use Rattle.common.specs.Bytes.{AreBytes}
 use Rattle.floats.specs.Wholes.{IsWhole, Sum, flat, doubles, wholes}
-use Rattle.chemstation.specs.Changes.{Change, clears, adds, slopes, becomes, restarts, after}
-use Rattle.chemstation.specs.Streams.{Told, fields, sumOf}
+use Rattle.streams.specs.Changes.{Change, clears, adds, slopes, becomes, restarts, after}
+use Rattle.streams.specs.Told.{Told}
+use Rattle.chemstation.specs.Next.{fields}
+use Rattle.streams.specs.Next.{sumOf}
 use Rattle.floats.specs.Doubles.{double}
 use Rattle.chemstation.specs.Next.{rule}
-use Rattle.chemstation.specs.declared.State.{State}
-use Rattle.chemstation.specs.declared.State.the-variants.{Fid, Ms, Mwd, Dad, Uv, Array}
-use Rattle.chemstation.specs.declared.Record.{Record}
-use Rattle.chemstation.specs.declared.Record.the-variants.{Trace, Mass, Spectrum}
+use Rattle.streams.specs.declared.State.{State}
+use Rattle.streams.specs.declared.State.the-variants.{Fid, Ms, Mwd, Dad, Uv, Array}
+use Rattle.streams.specs.declared.Record.{Record}
+use Rattle.streams.specs.declared.Record.the-variants.{Trace, Mass, Spectrum}
 
 -- ---- in whole numbers
 

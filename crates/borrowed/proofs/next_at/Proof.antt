@@ -5,7 +5,8 @@ use native.Mathlib.Omega.{arith}
 use lib.ListN.{drop, length-drop}
 use borrow.Author.Needs.{needs}
 use Rattle.rules.proofs.Laws.{taken-within}
-use Rattle.chemstation.specs.Next.{rule, answerOf}
+use Rattle.chemstation.specs.Next.{rule}
+use Rattle.streams.specs.Next.{answerOf}
 use Rattle.rules.specs.Calls.{oneRecord}
 use Rattle.borrowed.proofs.Laws.{answered-at}
 use Rattle.borrowed.proofs.next_at.Statement.{statement}

@@ -1,7 +1,7 @@
 -- What is given and the state after it are made of what the rule reads.
 use mathlib.Core.Path.{sym, ap, _∙_}
 use borrow.Author.Needs.{needs}
-use Rattle.chemstation.specs.Next.{answerOf}
+use Rattle.streams.specs.Next.{answerOf}
 use Rattle.rules.specs.Rule.{mapRead}
 use Rattle.rules.specs.Calls.{oneRecord}
 use Rattle.borrowed.proofs.step.Statement.{statement}

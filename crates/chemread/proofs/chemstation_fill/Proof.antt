@@ -1,20 +1,21 @@
 -- No state, or the columns filled from the state and the state after the last record stored back.
-use mathlib.Core.Path.{refl, sym, _∙_}
+use mathlib.Core.Path.{sym, _∙_}
 use borrow.Author.Needs.{needs}
-use Rattle.chemread.proofs.Calls.{fills-into}
+use Rattle.chemread.proofs.Calls.{fills-into, fills-nothing}
 use Rattle.chemread.proofs.chemstation_fill.Statement.{statement}
 use Rattle.chemread.proofs.chemstation_fill.Tie as tie
 
 returns : tie.Need-returns
 returns c =
     let m = c .before .before .before .before in
-    rw (c .number .ensures, sym (m .state-of .ensures) ∙ c .before .before .enum-told .given .1) (record { answer = refl; memory = refl })
+    rw (c .number .ensures) (fills-nothing _ _ _ (sym (m .state-of .ensures) ∙ c .before .before .enum-told .given .1))
 
 returns-2 : tie.Need-returns-2
 returns-2 c =
     let f = c .before .before .before .before .before .before .before .before .before .before .before .before in
     let m = f .before .before .before .before .before .before .before .before in
-    rw (c .closing-number .ensures, c .before .before .counts-of .ensures, c .before .before .before .numbers-of .ensures, sym (m .state-of .ensures) ∙ f .before .before .before .before .before .before .st .given .1) (fills-into _ _ _ _ _ _ _ _ _ (f .fill-columns .ensures))
+    rw (c .closing-number .ensures, c .before .before .counts-of .ensures, c .before .before .before .numbers-of .ensures)
+    (fills-into _ _ _ _ _ _ (sym (m .state-of .ensures) ∙ f .before .before .before .before .before .before .st .given .1) (f .fill-columns .ensures))
 
 pub chemstation-fill-spec : {M : Type 1} → statement M
 chemstation-fill-spec =

@@ -3,7 +3,7 @@ use Prim.Native.Nat.{_-_}
 use native.Mathlib.Omega.{arith}
 use borrow.Author.Needs.{needs}
 use lib.ListN.{length}
-use Rattle.reader.proofs.ColumnLaws.{answered}
+use Rattle.chemstation.proofs.Answers.{answered}
 use Rattle.log.proofs.Logs.{line-some, Logging, logging-start, logging-more}
 use Rattle.log.proofs.log_records.Statement.{statement}
 use Rattle.log.proofs.log_records.Tie as tie

@@ -1,7 +1,6 @@
 -- By the answer.
-use mathlib.Core.Path.{_≡_, ap, subst}
-use Prim.Native.Nat.{ℕ}
-use native.Mathlib.Omega.{arith}
+use mathlib.Core.Path.{ap, subst}
+use mathlib.Core.Bool.{false≢true}
 use borrow.Author.Needs.{needs}
 use Rattle.error.specs.Number.{stopOf}
 use Rattle.logger.specs.Run.{Answers}
@@ -19,13 +18,13 @@ returns-2 : tie.Need-returns-2
 returns-2 c =
     let start = c .before .before .before in
     let is = ap stopOf (c .enum-told2 .given .1) in
-    λ out h. record { inside = h .room; after = λ kind come written s. stands-closed kind come written _ _ out s _ _ (start .pre .2) (λ q. absurd (let o : _≡_ {A = ℕ} 0 1 = cc in omega arith)) }
+    λ out h. record { inside = h .room; after = λ kind come written s. stands-closed kind come written _ _ out s _ _ (start .pre .2) (λ q. absurd (false≢true cc)) }
 
 returns-3 : tie.Need-returns-3
 returns-3 c =
     let start = c .before .before .before in
     let is = ap stopOf (c .enum-told3 .given .1) in
-    λ out h. record { inside = h .room; after = λ kind come written s. stands-closed kind come written _ _ out s _ _ (start .pre .2) (λ q. absurd (let o : _≡_ {A = ℕ} 0 1 = cc in omega arith)) }
+    λ out h. record { inside = h .room; after = λ kind come written s. stands-closed kind come written _ _ out s _ _ (start .pre .2) (λ q. absurd (false≢true cc)) }
 
 pub answered-spec : {M : Type 1} → statement M
 answered-spec = tie.close (tie.spec (λ c. search needs) get-more-requires (λ c. search needs) (λ c. search needs) (λ c. search needs) (λ c. search needs) returns-2 returns-3)

@@ -1,13 +1,14 @@
 -- The loop keeps that so many records are read and stand in the columns; it ends where the columns are full or the rule stops.
 use mathlib.Core.Path.{refl}
-use Prim.Native.Nat.{ℕ, _-_}
+use Prim.Native.Nat.{_-_}
 use native.Mathlib.Omega.{arith}
 use borrow.Author.Needs.{needs}
 use lib.ListN.{length, drop, length-drop}
 use Rattle.rules.proofs.Laws.{taken-within}
 use Rattle.chemstation.specs.Next.{rule}
 use Rattle.reader.specs.Columns.{columns}
-use Rattle.reader.proofs.ColumnLaws.{answered, Even, Going, going-start, going-more, going-stops, going-full}
+use Rattle.chemstation.proofs.Answers.{answered}
+use Rattle.reader.proofs.ColumnLaws.{Even, even-if, Going, going-start, going-more, going-stops, going-full}
 use Rattle.reader.proofs.fill_equal.Statement.{statement}
 use Rattle.reader.proofs.fill_equal.Tie as tie
 
@@ -20,10 +21,10 @@ abbrev μ-loop : tie.MeasureT-loop
 
 loop-holds : tie.Need-loop-holds Inv-loop μ-loop
 loop-holds c =
-    let p = c .before .before .before .before .before .pre in
-    let a = c .before .before .before .before .before .args in
+    let start = c .before .before .before .before .before in
+    let a = start .args in
     let old = columns (a .time .now) (a .axis .now) (a .unscaled .now) (a .scaled .now) in
-    let e : Even (length (a .time .now)) old = record { time = refl; axis = p .0; unscaled = p .1; scaled = p .2 } in
+    let e = even-if old (start .pre) in
     (e, going-start (length (a .time .now)) (a .st) (a .s .now) (a .last) old e)
 
 sub-next-record : tie.Need-sub-next-record Inv-loop μ-loop
@@ -39,9 +40,10 @@ returns : tie.Need-returns Inv-loop μ-loop
 returns c =
     let m = c .before .before .before in
     let l = m .before .before .before in
-    let a = l .before .before .before .before .before .before .args in
+    let start = l .before .before .before .before .before .before in
+    let a = start .args in
     let q = answered (l .loop .cur) (a .last) (a .s .now) (l .loop .at) _ _ (m .next-record .ensures) (c .before .z .given .1) in
-    going-stops _ _ _ _ _ _ _ _ _ (l .loop .inv .1) (omega arith) _ _ refl q
+    rw (start .pre) (going-stops _ _ _ _ _ _ _ _ _ (l .loop .inv .1) (omega arith) _ _ refl q)
 
 add-at : tie.Need-add-at Inv-loop μ-loop
 add-at c =
@@ -61,7 +63,7 @@ loop-again c =
     (l .loop .inv .0, rw (c .row-of .ensures) (going-more _ _ _ _ _ _ _ _ _ (l .loop .inv .1) (omega arith) (l .loop .inv .0) _ _ _ q))
 
 returns-2 : tie.Need-returns-2 Inv-loop μ-loop
-returns-2 c = going-full _ _ _ _ _ _ _ _ _ (c .before .loop .inv .1) (omega arith) _ refl
+returns-2 c = rw (c .before .before .before .before .before .before .before .pre) (going-full _ _ _ _ _ _ _ _ _ (c .before .loop .inv .1) (omega arith) _ refl)
 
 pub fill-equal-spec : {M : Type 1} → statement M
 fill-equal-spec =

@@ -1,0 +1,27 @@
+-- By the counts that are due: none, a scan, or a point.
+use mathlib.Core.Path.{sym}
+use borrow.Author.Needs.{needs}
+use borrow.Author.Tests.{eq-eqb, ne-eqb}
+use Rattle.streams.specs.declared.State.the-variants.{Dad}
+use Rattle.streams.proofs.ScanningLaws.{scans-done, scan-new, scan-within}
+use Rattle.dad.specs.Dad.{dadScanning}
+use Rattle.dad.proofs.dad_next.Statement.{statement}
+use Rattle.dad.proofs.dad_next.Tie as tie
+
+returns : tie.Need-returns
+returns c = let a = c .before .before .before .before .args in sym (scans-done (Dad (a .st)) (dadScanning (a .st)) (a .last) (a .s .now) (eq-eqb _ _ (c .if1 .taken)))
+
+returns-2 : tie.Need-returns-2
+returns-2 c =
+    let b = c .before .before .before .before in
+    let a = b .before .before .before .before .args in
+    rw (c .dad-scan .ensures, scan-new (Dad (a .st)) (dadScanning (a .st)) (a .last) (a .s .now) (ne-eqb _ _ (b .if1 .left)) (c .before .if2 .taken))
+
+returns-3 : tie.Need-returns-3
+returns-3 c =
+    let b = c .before .before .before .before .before in
+    let a = b .before .before .before .before .args in
+    rw (c .dad-point .ensures, scan-within (Dad (a .st)) (dadScanning (a .st)) (a .last) (a .s .now) (ne-eqb _ _ (b .if1 .left)) (c .before .before .if2 .left))
+
+pub dad-next-spec : {M : Type 1} → statement M
+dad-next-spec = tie.close (tie.spec returns (λ c κs. search needs) returns-2 (λ c κs. search needs) returns-3)

@@ -1,0 +1,2 @@
+mod Demand3
+mod Specimens

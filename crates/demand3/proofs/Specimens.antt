@@ -1,0 +1,42 @@
+-- The specimens: one computation, a test, so that a specimen that is not met is refused at once; and the equation that the test shows.
+use mathlib.Core.Path.{_≡_, refl, ap₂}
+use mathlib.Core.Bool.{Bool, true, _&&_}
+use mathlib.Core.List.{List, [], _∷_}
+use Prim.Native.Nat.{ℕ}
+use lib.Dec.{T, eqb, eqb→eq}
+use lib.Ieee.{add, mul, div, sub, ofInt, ofBits, toBits}
+use mir.Facts.{and-yes}
+use Rattle.rules.specs.Rule.{read, _>>=_}
+use Rattle.rules.specs.Calls.{readUpTo}
+use Rattle.agilent.specs.Header.{headerRule}
+use Rattle.metadata.specs.Metadata.{blank}
+use Rattle.streams.specs.Told.{delta}
+use Rattle.streams.specs.Scanning.{scanning}
+use Rattle.fid.specs.Fid.{fidRule}
+use Rattle.ms.specs.Ms.{msPoint, msScans}
+use Rattle.mwd.specs.Mwd.{mwdPoint, mwdRule}
+use Rattle.dad.specs.Dad.{dadPoint, dadScan}
+use Rattle.uv.specs.Uv.{uvPoint, uvScan}
+use Rattle.opening.specs.Opening.{sameBytes, begins}
+use Rattle.demand3.specs.Specimens.{Specimen, answered, specimens, AllGive}
+
+same-is : (l m : List ℕ) → T (sameBytes l m) → l ≡ m
+same-is [] [] t = refl
+same-is [] (b ∷ bs) t = absurd t
+same-is (a ∷ r) [] t = absurd t
+same-is (a ∷ r) (b ∷ bs) t = let p = and-yes (eqb a b) (sameBytes r bs) t in ap₂ (λ x xs. x ∷ xs) (eqb→eq a b (p .0)) (same-is r bs (p .1))
+
+abbrev test : List Specimen → Bool
+test [] = true
+test (s ∷ ss) = sameBytes (answered (s .does)) (s .answers) && test ss
+
+all-give : (ss : List Specimen) → T (test ss) → AllGive ss
+all-give [] t = refl
+all-give (s ∷ ss) t = let p = and-yes (sameBytes (answered (s .does)) (s .answers)) (test ss) t in ap₂ (λ x xs. x ∷ xs) (same-is (answered (s .does)) (s .answers) (p .0)) (all-give ss (p .1))
+
+computed : T (test specimens)
+unfolding specimens read _>>=_ readUpTo headerRule blank begins delta fidRule msPoint msScans mwdPoint mwdRule dadPoint dadScan uvPoint uvScan scanning add mul div sub ofInt ofBits toBits
+computed = tt
+
+pub they-give : AllGive specimens
+they-give = all-give specimens computed

@@ -1,0 +1,3 @@
+pub mod Puts
+mod Digits
+mod Words

@@ -1,0 +1,137 @@
+-- What stands where a description says that a text does.
+use mathlib.Core.Path.{_≡_, refl, sym, ap, _∙_}
+use mathlib.Core.Bool.{false}
+use mathlib.Core.List.{List, [], _∷_}
+use Prim.Native.Nat.{ℕ, _+_, _-_, _*_, _≤_}
+use native.Mathlib.Nat.{add-sub-cancel-left}
+use native.Mathlib.Omega.{arith}
+use mir.Syntax.{w8}
+use mir.Val.{Fits}
+use types.Run.{OneOf, miss}
+use denote.Enum.Declared.{tagOf}
+use lib.Dec.{eqb}
+use lib.ListN.{length, getD, take, drop, length-take, length-drop}
+use lib.Seq.{drop-drop}
+use borrow.Author.Tests.{eqb-true, eqb-false}
+use Rattle.rules.specs.Rule.{gives}
+use Rattle.common.specs.Bytes.{part}
+use Rattle.agilent.proofs.HeaderLaws.{part-take}
+use Rattle.utf8.specs.Utf8.{decode}
+use Rattle.utf16.specs.Utf16.{utf8Of}
+use Rattle.trim.specs.WhiteSpace.{trimmedOf}
+use Rattle.trim.specs.declared.Trimmed.{Trimmed}
+use Rattle.trim.specs.declared.Trimmed.the-variants.{NotUtf8, At}
+use borrow.Table.Steps.{cases as by}
+use Rattle.utf8.proofs.Decodes.{exactly}
+use Rattle.trim.proofs.Stands.{stands-at, inside-bounds, holds-text}
+use Rattle.pascal.specs.declared.TextField.{TextField}
+use Rattle.pascal.specs.declared.TextField.the-variants.{Absent, Pascal, PascalToEnd, Utf16}
+use Rattle.metadata.specs.declared.ChemstationMetadata.{ChemstationMetadata}
+use Rattle.layouts.specs.Table.{fieldOf}
+use Rattle.pascal.specs.Texts.{Place, placeAt, trimmedFrom, pascal, textRule, reach}
+use Rattle.metadata.specs.Metadata.{metadataRule}
+use Rattle.fetch.specs.Fetch.{trimmedText, textOf}
+use Rattle.pascal.proofs.TextField.{the-type}
+use Rattle.metadata.proofs.Orderly.{Orderly, giving, refusing, outcome, then, checked}
+use Rattle.metadata.proofs.HeaderReads.{placeOf, metadata-orderly}
+
+-- at the place p of h stands what means t
+pub record Holds (h : List ℕ) (p : Place) (means : List ℕ → List ℕ) (t : List ℕ) : Type 0 where
+  pub inside : p .start + p .bytes ≤ length h
+  pub text : means (part (p .start) (p .bytes) h) ≡ t
+
+-- a place is 0, 0 where nothing stands
+place-holds : (h : List ℕ) (means : List ℕ → List ℕ) (at n : ℕ) → n ≤ length h - at → Holds h (placeAt at n) means (means (part at n h))
+place-holds h means at n l =
+    by (eqb n 0) (λ t. rw (t, eqb-true n 0 t) (record { inside = omega arith; text = refl }))
+    λ f. let z = eqb-false n 0 f in rw f (record { inside = omega arith; text = refl })
+
+-- ---- a text of an old edition
+
+abbrev same : List ℕ → List ℕ
+same bs = bs
+
+module _ (h : List ℕ) (start : ℕ) where
+  abbrev raw : List ℕ
+  raw = part (start + 1) (getD h start 0) h
+
+  trimmed-holds : (p n : ℕ) → trimmedOf raw ≡ At p n → Holds h (placeAt (start + 1 + p) n) same (trimmedText (decode raw))
+  trimmed-holds p n e =
+      let s = stands-at raw p n e in
+      let i = inside-bounds s in
+      let x = place-holds h same (start + 1 + p) n (omega (arith, length-take (getD h start 0) (drop (start + 1) h), length-drop (start + 1) h)) in
+      record {
+        inside = x .inside;
+        text =
+            x .text ∙ ap (take n) (sym (drop-drop p (start + 1) h)) ∙ sym (part-take p n (getD h start 0) (drop (start + 1) h) i)
+            ∙ holds-text s ∙ sym (ap trimmedText (exactly raw (s .scalars) .1 (s .utf8)));
+      }
+
+nothing-holds : (h : List ℕ) → Holds h (placeAt 0 0) same []
+nothing-holds h = record { inside = omega arith; text = refl }
+
+-- ---- each text
+
+-- the bytes at its place as a text: old ones as they are
+abbrev pub asText : TextField → List ℕ → List ℕ
+asText Absent bs = bs
+asText (Pascal start width) bs = bs
+asText (PascalToEnd start) bs = bs
+asText (Utf16 start) bs = utf8Of bs
+
+-- any field but UTF-16, as the code tells it
+abbrev pub Old : TextField → Type 0
+Old f = OneOf (0 ∷ 1 ∷ 2 ∷ []) (tagOf the-type f)
+
+as-it-is : (f : TextField) (bs : List ℕ) → Old f → bs ≡ asText f bs
+as-it-is Absent bs o = refl
+as-it-is (Pascal start width) bs o = refl
+as-it-is (PascalToEnd start) bs o = refl
+as-it-is (Utf16 start) bs o = absurd (miss (0 ∷ 1 ∷ 2 ∷ []) 3 tt o)
+
+abbrev pub Found : TextField → List ℕ → Place → Type 0
+Found f h p = ((i : ℕ) → Fits w8 (getD h i 0)) → Holds h p (asText f) (textOf f h)
+
+-- a text of an old edition, which f reads as it is
+module _ (f : TextField) (h : List ℕ) (start : ℕ) (old : (p : Place) → Holds h p same (trimmedText (decode (raw h start))) → Found f h p) where
+  trimmed-found : (t : Trimmed) → trimmedOf (raw h start) ≡ t → Orderly false (Found f h) (trimmedFrom (start + 1) t)
+  trimmed-found NotUtf8 e = refusing
+  trimmed-found (At p n) e = giving (old (placeAt (start + 1 + p) n) (trimmed-holds h start p n e))
+
+  pascal-found : (width : ℕ) → Orderly false (Found f h) (pascal start width h)
+  unfolding pascal
+  pascal-found width = then (search checked) λ _. trimmed-found (trimmedOf (raw h start)) refl
+
+module _ (h : List ℕ) where
+  found : (f : TextField) → reach f ≤ length h → Orderly false (Found f h) (textRule f h)
+  unfolding textRule textOf
+  found Absent m = giving λ _. nothing-holds h
+  found (Pascal start width) m = pascal-found (Pascal start width) h start (λ p x _. x) width
+  found (PascalToEnd start) m = pascal-found (PascalToEnd start) h start (λ p x _. x) (length h - start)
+  found (Utf16 start) m = giving λ small. place-holds h utf8Of (start + 1) (2 * getD h start 0) (omega (arith, small start))
+
+-- the eight texts of a header
+each-found : (h : List ℕ) → Orderly false (λ d. (k : ℕ) → Found (fieldOf k (d .edition)) h (placeOf d k)) (metadataRule h)
+unfolding textOf
+each-found h = metadata-orderly h (λ f. Found f h) (found h) λ _. nothing-holds h
+
+-- ---- as the code takes them, from a start up to an end
+
+module _ (h : List ℕ) (d : ChemstationMetadata) (k : ℕ) (e : metadataRule h ≡ gives d) (small : (i : ℕ) → Fits w8 (getD h i 0)) where
+  there : Holds h (placeOf d k) (asText (fieldOf k (d .edition))) (textOf (fieldOf k (d .edition)) h)
+  there = outcome _ (each-found h) e k small
+
+  pub text-inside : getD (d .«text_starts») k 0 + getD (d .«text_lengths») k 0 ≤ length h
+  text-inside = there .inside
+
+  abbrev bytes : List ℕ
+  bytes = part (getD (d .«text_starts») k 0) (getD (d .«text_starts») k 0 + getD (d .«text_lengths») k 0 - getD (d .«text_starts») k 0) h
+
+  taken : asText (fieldOf k (d .edition)) bytes ≡ textOf (fieldOf k (d .edition)) h
+  taken = rw (add-sub-cancel-left (getD (d .«text_starts») k 0) (getD (d .«text_lengths») k 0)) (there .text)
+
+  pub new-text : {start : ℕ} → fieldOf k (d .edition) ≡ Utf16 start → utf8Of bytes ≡ textOf (fieldOf k (d .edition)) h
+  new-text q = sym (ap (λ f. asText f bytes) q) ∙ taken
+
+  pub old-text : Old (fieldOf k (d .edition)) → bytes ≡ textOf (fieldOf k (d .edition)) h
+  old-text o = as-it-is (fieldOf k (d .edition)) bytes o ∙ taken

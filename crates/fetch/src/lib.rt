@@ -1,0 +1,104 @@
+// Fetch a text: its UTF-8, straight from the header's bytes to the lent buffer.
+use error::Refusal;
+use error::Stopped;
+use layouts::field_in;
+use metadata::ChemstationMetadata;
+use metadata::Opened;
+use metadata::open_header;
+use pascal::TextField;
+use utf16::decode_utf16;
+use written::Written;
+use written::copy_text;
+ghost use mathlib.Core.Path.{_≡_};
+ghost use mathlib.Core.Bool.{true, _&&_};
+ghost use mathlib.Core.List.{List};
+ghost use Prim.Native.Nat.{ℕ, _<_};
+ghost use lib.Dec.{leb};
+ghost use lib.ListN.{length};
+ghost use Rattle.rules.specs.Rule.{gives, finished, got, read};
+ghost use Rattle.error.specs.Number.{numberOf, stopOf};
+ghost use Rattle.written.specs.Written.{Puts};
+ghost use Rattle.layouts.specs.Table.{fieldOf};
+ghost use Rattle.metadata.specs.Metadata.{metadataRule};
+ghost use Rattle.fetch.specs.Fetch.{textOf, fetchRule, numberOfStop, Fetches};
+
+// What Fetch a text answers.
+pub enum Fetched {
+    // its length in bytes
+    Text(usize),
+    Refused(Refusal),
+}
+
+// Whether n is from 1 to the most.
+fn in_range(most: u8, n: u8) -> bool
+    ensures { λ r. ⌜ r ≡ (leb 1 n && leb n most) ⌝ }
+{
+    if n < 1 {
+        return false;
+    }
+    n <= most
+}
+
+// A header that may not go on is refused: told last, a field that is cut is 14, and no header is 'finished'.
+fn refusal_of(z: Stopped) -> Refusal
+    requires { ⌜ ¬ (stopOf z ≡ finished) ⌝ }
+    ensures { λ r. ⌜ numberOf r ≡ numberOfStop (stopOf z) ⌝ }
+{
+    match z {
+        Stopped::Refused(r) => r,
+        Stopped::Finished => Refusal::Incomplete,
+        Stopped::MoreBytes => Refusal::Incomplete,
+    }
+}
+
+// What was written, as an answer of Fetch.
+fn answer_of(w: Written) -> Fetched
+    ensures { λ r. ⌜ ((old new t : List ℕ) (n : ℕ) → Puts w old new t → Fetches r old new (got t n)) ⌝ }
+{
+    match w {
+        Written::Bytes(n) => Fetched::Text(n),
+        Written::NoRoom => Fetched::Refused(Refusal::LentLength),
+    }
+}
+
+// The text of a number less one, of a header h that says d.
+fn fetch_from(d: ChemstationMetadata, k: usize, h: &[u8], out: &mut [u8]) -> Fetched
+    requires { ⌜ (k < 8) × (metadataRule (now h) ≡ gives d) ⌝ }
+    ensures { λ r. ⌜ Fetches r (now (out .entry)) (now (out .exit)) (got (textOf (fieldOf k (d .edition)) (now (h .entry))) (length (now (h .entry)))) ⌝ }
+{
+    let starts = d.text_starts;
+    let lengths = d.text_lengths;
+    let at = starts[k];
+    let end = at + lengths[k];
+    let bytes = &h[at..end];
+    match field_in(d.edition, k) {
+        TextField::Utf16 { start: _ } => answer_of(decode_utf16(bytes, out)),
+        _ => answer_of(copy_text(bytes, out)),
+    }
+}
+
+// A text by its number, from the bytes of a whole file.
+pub fn fetch_text(kind: u8, number: u8, s: &[u8], out: &mut [u8]) -> Fetched
+    ensures { λ r. ⌜ Fetches r (now (out .entry)) (now (out .exit)) (read true (fetchRule kind number) (now (s .entry))) ⌝ }
+{
+    if !in_range(6, kind) {
+        return Fetched::Refused(Refusal::UnknownKind);
+    }
+    if !in_range(8, number) {
+        return Fetched::Refused(Refusal::UnknownText);
+    }
+    let o = open_header(kind, s, true);
+    let answer = o.answer;
+    match answer {
+        Opened::Stopped(z) => Fetched::Refused(refusal_of(z)),
+        Opened::Header {
+            size,
+            scans: _,
+            time_step: _,
+        } => {
+            let d = o.metadata;
+            let k = (number - 1) as usize;
+            fetch_from(d, k, &s[..size], out)
+        }
+    }
+}

@@ -1,0 +1,4 @@
+pub mod Gathers
+pub mod Opens
+pub mod Orderly
+pub mod HeaderReads

@@ -1,0 +1,19 @@
+-- A field lies within its edition's minimum.
+use mathlib.Core.Path.{ap, _∙_}
+use native.Mathlib.Omega.{arith}
+use borrow.Author.Needs.{needs}
+use Rattle.pascal.specs.Texts.{reach, textRule}
+use Rattle.layouts.proofs.Tables.{field-lies}
+use Rattle.metadata.proofs.text_in.Statement.{statement}
+use Rattle.metadata.proofs.text_in.Tie as tie
+
+text-place-requires : tie.Need-text-place-requires
+text-place-requires c κs =
+    let s = c .before .before in
+    omega (arith, field-lies (s .args .k) (s .args .edition), ap reach (c .field-in .ensures), s .pre)
+
+returns : tie.Need-returns
+returns c = c .text-place .ensures ∙ ap (λ f. textRule f (c .before .before .before .args .h .now)) (c .before .field-in .ensures)
+
+pub text-in-spec : {M : Type 1} → statement M
+text-in-spec = tie.close (tie.spec (λ c κs. search needs) text-place-requires returns)

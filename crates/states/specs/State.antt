@@ -1,0 +1,129 @@
+-- A state as numbers that the caller keeps: six doubles and four counts.
+use mathlib.Core.Path.{_≡_}
+use mathlib.Core.Bool.{cond}
+use mathlib.Core.List.{List, [], _∷_}
+use Prim.Native.Nat.{ℕ}
+use lib.Dec.{eqb}
+use lib.ListN.{getD}
+use lib.Ieee.{Float, binary64, ofBits, nan}
+use Rattle.streams.specs.declared.ChemstationArrayRecordType.{ChemstationArrayRecordType}
+use Rattle.streams.specs.declared.ChemstationArrayRecordType.the-variants.{Float32Array, Float64Array}
+use Rattle.streams.specs.declared.State.{State}
+use Rattle.streams.specs.declared.State.the-variants.{Fid, Ms, Mwd, Dad, Uv, Array}
+use Rattle.states.specs.declared.Kept.{Kept}
+use Rattle.states.specs.declared.Kept.the-variants as kept
+
+-- what a place holds that the kind has no number for
+abbrev unused : Float
+unused = ofBits binary64 0
+
+-- time, intensity, slope or wavelength, step, multiplier, offset; 0 where the kind has no such number
+abbrev pub numbersOf : State → List Float
+numbersOf (Fid f) = f .«cur_time» ∷ f .«cur_intensity» ∷ f .«cur_delta» ∷ f .«time_step» ∷ f .«mult_correction» ∷ f .«offset_correction» ∷ []
+numbersOf (Ms m) = m .«cur_time» ∷ m .«cur_intensity» ∷ unused ∷ unused ∷ unused ∷ unused ∷ []
+numbersOf (Mwd m) = m .«cur_time» ∷ m .«cur_intensity» ∷ unused ∷ m .«time_step» ∷ m .«mult_correction» ∷ m .«offset_correction» ∷ []
+numbersOf (Dad d) = d .«cur_time» ∷ d .«cur_intensity» ∷ d .«cur_wv» ∷ d .«wv_step» ∷ unused ∷ unused ∷ []
+numbersOf (Uv u) = u .«cur_time» ∷ u .«cur_intensity» ∷ u .«cur_wv» ∷ u .«wv_step» ∷ u .«mult_correction» ∷ unused ∷ []
+numbersOf (Array a) = a .«cur_time» ∷ a .«cur_intensity» ∷ unused ∷ a .«time_step» ∷ a .«mult_correction» ∷ unused ∷ []
+
+abbrev pub typeNumber : ChemstationArrayRecordType → ℕ
+typeNumber Float32Array = 0
+typeNumber Float64Array = 1
+
+-- kind, scans due, points or bytes due, record type; 0 where the kind has no such count
+abbrev pub countsOf : State → List ℕ
+countsOf (Fid f) = 1 ∷ 0 ∷ 0 ∷ 0 ∷ []
+countsOf (Ms m) = 2 ∷ m .«n_scans_left» .0 ∷ m .«n_mzs_left» .0 ∷ 0 ∷ []
+countsOf (Mwd m) = 3 ∷ 0 ∷ m .«n_wvs_left» .0 ∷ 0 ∷ []
+countsOf (Dad d) = 4 ∷ d .«n_scans_left» .0 ∷ d .«n_bytes_left» .0 ∷ 0 ∷ []
+countsOf (Uv u) = 5 ∷ u .«n_scans_left» .0 ∷ u .«n_wvs_left» .0 ∷ 0 ∷ []
+countsOf (Array a) = 6 ∷ a .«n_scans_left» .0 ∷ 0 ∷ typeNumber (a .«record_type») ∷ []
+
+-- ---- taken back
+
+abbrev pub typeAt : ℕ → ChemstationArrayRecordType
+typeAt n = cond (eqb n 0) Float32Array Float64Array
+
+-- the last argument of getD stands for what lies behind a list's end, where nothing is looked up
+abbrev numberAt : List Float → ℕ → Float
+numberAt x i = getD x i nan
+
+abbrev countAt : List ℕ → ℕ → ℕ
+countAt n i = getD n i 0
+
+abbrev pub fidFrom : List Float → State
+fidFrom x = Fid (record {
+  «cur_time» = numberAt x 0;
+  «cur_delta» = numberAt x 2;
+  «cur_intensity» = numberAt x 1;
+  «time_step» = numberAt x 3;
+  «mult_correction» = numberAt x 4;
+  «offset_correction» = numberAt x 5;
+})
+
+abbrev pub msFrom : List Float → List ℕ → State
+msFrom x n = Ms (record {
+  «n_scans_left» = record { 0 = countAt n 1 };
+  «n_mzs_left» = record { 0 = countAt n 2 };
+  «cur_time» = numberAt x 0;
+  «cur_intensity» = numberAt x 1;
+})
+
+abbrev pub mwdFrom : List Float → List ℕ → State
+mwdFrom x n = Mwd (record {
+  «n_wvs_left» = record { 0 = countAt n 2 };
+  «cur_time» = numberAt x 0;
+  «cur_intensity» = numberAt x 1;
+  «time_step» = numberAt x 3;
+  «mult_correction» = numberAt x 4;
+  «offset_correction» = numberAt x 5;
+})
+
+abbrev pub dadFrom : List Float → List ℕ → State
+dadFrom x n = Dad (record {
+  «n_scans_left» = record { 0 = countAt n 1 };
+  «n_bytes_left» = record { 0 = countAt n 2 };
+  «cur_time» = numberAt x 0;
+  «cur_intensity» = numberAt x 1;
+  «cur_wv» = numberAt x 2;
+  «wv_step» = numberAt x 3;
+})
+
+abbrev pub uvFrom : List Float → List ℕ → State
+uvFrom x n = Uv (record {
+  «n_scans_left» = record { 0 = countAt n 1 };
+  «n_wvs_left» = record { 0 = countAt n 2 };
+  «cur_time» = numberAt x 0;
+  «cur_intensity» = numberAt x 1;
+  «cur_wv» = numberAt x 2;
+  «wv_step» = numberAt x 3;
+  «mult_correction» = numberAt x 4;
+})
+
+abbrev pub arrayFrom : List Float → List ℕ → State
+arrayFrom x n = Array (record {
+  «record_type» = typeAt (countAt n 3);
+  «n_scans_left» = record { 0 = countAt n 1 };
+  «cur_time» = numberAt x 0;
+  «cur_intensity» = numberAt x 1;
+  «time_step» = numberAt x 3;
+  «mult_correction» = numberAt x 4;
+})
+
+abbrev pub keptAs : ℕ → List Float → List ℕ → Kept
+keptAs kind x n =
+    cond (eqb kind 1) (kept.State (fidFrom x))
+    (cond (eqb kind 2) (kept.State (msFrom x n))
+    (cond (eqb kind 3) (kept.State (mwdFrom x n))
+    (cond (eqb kind 4) (kept.State (dadFrom x n))
+    (cond (eqb kind 5) (kept.State (uvFrom x n))
+    (cond (eqb kind 6) (kept.State (arrayFrom x n))
+    kept.NoKind)))))
+
+-- the state that the numbers hold: unused for a kind that is not 1 to 6
+unfoldable pub stateOf : List Float → List ℕ → Kept
+stateOf x n = keptAs (countAt n 0) x n
+
+-- a state that is stored and taken back is the same
+abbrev pub KeepsStates : Type 0
+KeepsStates = (st : State) → stateOf (numbersOf st) (countsOf st) ≡ kept.State st

@@ -1,0 +1,181 @@
+// UTF-16 made into UTF-8, in a lent buffer.
+use utf8::wide;
+use utf8::within;
+use written::Written;
+use written::put;
+ghost use mathlib.Core.Path.{_≡_};
+ghost use mathlib.Core.List.{List, _++_};
+ghost use Prim.Native.Nat.{ℕ, _+_, _≤_, _<_};
+ghost use lib.ListN.{length, take, drop};
+ghost use lib.Seq.{paste};
+ghost use Rattle.utf8.specs.Utf8.{encode, six, Utf8};
+ghost use Rattle.written.specs.Written.{written, Puts};
+ghost use Rattle.utf16.specs.Utf16.{Octets, units, utf16, utf8Of, pieceOf, unitAt, First};
+
+// A scalar, and how many bytes of UTF-16 it takes.
+struct Piece {
+    pub scalar: u32,
+    pub width: usize,
+}
+
+// ---- The UTF-8 of a scalar
+
+fn width_of(c: u32) -> usize
+    ensures { λ r. ⌜ r ≡ length (encode c) ⌝ }
+{
+    if c < 0x80 {
+        return 1;
+    }
+    if c < 0x800 {
+        return 2;
+    }
+    if c < 0x10000 {
+        return 3;
+    }
+    4
+}
+
+fn byte(c: u32) -> u8
+    requires { ⌜ c < 256 ⌝ }
+    ensures { λ r. ⌜ r ≡ c ⌝ }
+{
+    c as u8
+}
+
+fn six(c: u32) -> u8
+    ensures { λ r. ⌜ r ≡ six c ⌝ }
+{
+    byte(0x80 + c % 64)
+}
+
+// The UTF-8 of a scalar, and zeros behind it.
+fn encoded(c: u32) -> [u8; 4]
+    requires { ⌜ c < 0x110000 ⌝ }
+    ensures { λ r. ⌜ take (length (encode c)) r ≡ encode c ⌝ }
+{
+    if c < 0x80 {
+        return [byte(c), 0, 0, 0];
+    }
+    if c < 0x800 {
+        return [byte(0xC0 + c / 64), six(c), 0, 0];
+    }
+    if c < 0x10000 {
+        return [byte(0xE0 + c / 64 / 64), six(c / 64), six(c), 0];
+    }
+    [
+        byte(0xF0 + c / 64 / 64 / 64),
+        six(c / 64 / 64),
+        six(c / 64),
+        six(c),
+    ]
+}
+
+// Puts the UTF-8 of a scalar at a place, and answers the place behind it.
+fn put_scalar(out: &mut [u8], at: usize, c: u32) -> usize
+    requires { ⌜ (c < 0x110000) × (at + length (encode c) ≤ length (now out)) ⌝ }
+    ensures { λ r. ⌜ (r ≡ at + length (encode c)) × (now (out .exit) ≡ paste (now (out .entry)) at (encode c) (length (encode c))) ⌝ }
+{
+    let n = width_of(c);
+    let bytes = encoded(c);
+    put(&bytes, n, out, at);
+    at + n
+}
+
+// ---- UTF-16
+
+// Stands for each surrogate that is part of no pair.
+const REPLACEMENT: u32 = 0xFFFD;
+
+// The unit at a place, or 0 where there is none.
+fn unit_at(s: &[u8], at: usize) -> u32
+    requires { ⌜ at ≤ length (now s) ⌝ }
+    ensures { λ r. ⌜ (r ≡ unitAt (now (s .entry)) at) × (r < 65536) ⌝ }
+{
+    if s.len() - at < 2 {
+        return 0;
+    }
+    wide(s[at]) + 256 * wide(s[at + 1])
+}
+
+fn piece_of(u: u32, v: u32) -> Piece
+    ensures { λ r. ⌜ r ≡ pieceOf u v ⌝ }
+{
+    if !within(0xD800, 0xDFFF, u) {
+        return Piece {
+            scalar: u,
+            width: 2,
+        };
+    }
+    if 0xDBFF < u {
+        return Piece {
+            scalar: REPLACEMENT,
+            width: 2,
+        };
+    }
+    if !within(0xDC00, 0xDFFF, v) {
+        return Piece {
+            scalar: REPLACEMENT,
+            width: 2,
+        };
+    }
+    let high = u - 0xD800;
+    let low = v - 0xDC00;
+    let scalar = 0x10000 + high * 1024 + low;
+    Piece { scalar, width: 4 }
+}
+
+// What the UTF-16 from a place on begins with.
+fn piece_at(s: &[u8], at: usize) -> Piece
+    requires { ⌜ at + 2 ≤ length (now s) ⌝ }
+    ensures { λ r. ⌜ First (now (s .entry)) at r ⌝ }
+{
+    piece_of(unit_at(s, at), unit_at(s, at + 2))
+}
+
+// How many bytes of UTF-8 the UTF-16 in s makes, if there is room for them.
+fn measured(s: &[u8], room: usize) -> Written
+    ensures { λ r. ⌜ r ≡ written room (utf8Of (now (s .entry))) ⌝ }
+{
+    let mut at: usize = 0;
+    let mut n: usize = 0;
+    while 2 <= s.len() - at {
+        let p = piece_at(s, at);
+        let w = width_of(p.scalar);
+        if room - n < w {
+            return Written::NoRoom;
+        }
+        n += w;
+        at += p.width;
+    }
+    Written::Bytes(n)
+}
+
+// Puts the UTF-8 of the UTF-16 in s at the start of out, and answers its length.
+fn recode(s: &[u8], out: &mut [u8]) -> usize
+    requires { ⌜ length (utf8Of (now s)) ≤ length (now out) ⌝ }
+    ensures { λ r. ⌜ (r ≡ length (utf8Of (now (s .entry)))) × (now (out .exit) ≡ utf8Of (now (s .entry)) ++ drop r (now (out .entry))) ⌝ }
+{
+    let mut at: usize = 0;
+    let mut n: usize = 0;
+    while 2 <= s.len() - at {
+        let p = piece_at(s, at);
+        n = put_scalar(out, n, p.scalar);
+        at += p.width;
+    }
+    n
+}
+
+// Writes the UTF-8 of the UTF-16 in src to the start of out, if there is room for it.
+pub fn decode_utf16(src: &[u8], out: &mut [u8]) -> Written
+    ensures { λ r. ⌜ Puts r (now (out .entry)) (now (out .exit)) (utf8Of (now (src .entry))) ⌝ }
+{
+    let Written::Bytes(_) = measured(src, out.len()) else {
+        return Written::NoRoom;
+    };
+    Written::Bytes(recode(src, out))
+}
+
+// What the definitions mean, in a contract so that it cannot be left out: UTF-16 becomes UTF-8.
+pub fn utf16_laws()
+    ensures recodes { λ _. ⌜ ((bs : List ℕ) → Octets bs → Utf8 (utf8Of bs) (utf16 (units bs))) ⌝ }
+{}
