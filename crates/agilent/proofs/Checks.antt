@@ -19,7 +19,3 @@ module _ {A : Type 0} (c : ℕ) (r : Rule A) where
   unfolding _>>=_
   by-check true P f x = f refl
   by-check false P f x = x
-
-pub by-bool : (b : Bool) {P : Type 0} → (b ≡ true → P) → (b ≡ false → P) → P
-by-bool true f g = f refl
-by-bool false f g = g refl

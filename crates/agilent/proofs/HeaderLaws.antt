@@ -13,7 +13,8 @@ use Rattle.rules.proofs.Laws.{read-map, by-fit, got≢stops}
 use Rattle.rules.proofs.Places.{at-start, at-number, at-gives, at-cut, more-number, none, cut}
 use Rattle.common.specs.Bytes.{be, part}
 use Rattle.agilent.specs.Header.{check, known, sizeOf, headerRule, sizeRule}
-use Rattle.agilent.proofs.Checks.{passes, fails, by-check, by-bool}
+use borrow.Table.Steps.{cases as by-bool}
+use Rattle.agilent.proofs.Checks.{passes, fails, by-check}
 
 pub is-known : (kind : ℕ) → 1 ≤ kind → kind ≤ 6 → known kind ≡ true
 is-known kind h l = rw (le-leb 1 kind h, le-leb kind 6 l) refl

@@ -27,7 +27,7 @@ module _ (st : ChemstationDadState) (last : Bool) (s : List ℕ) where
   ReadsScan x = answer (Dad st) (readAt last (dadScan (st .«n_scans_left»)) 0 s) ≡ answer (Dad st) x
 
   abbrev afterHead : ℕ → ℕ → ℕ → ℕ → Rule Told
-  afterHead bytes time start step = cond (eqb bytes 0) ends (dadPoint (dadBegun (st .«n_scans_left») bytes time start step) (clears ∷ []))
+  afterHead bytes time start step = cond (eqb bytes 0) ends (dadPoint (dadBegun (st .«n_scans_left») (record { 0 = bytes }) time start step) (clears ∷ []))
 
   abbrev afterType : Rule Told
   afterType = u16 le >>= λ size. u32 le >>= λ time. u16 le >>= λ start. u16 le >>= λ end. u16 le >>= λ step. skip 8 >> afterHead (size - 22) time start step
@@ -71,6 +71,6 @@ module _ (st : ChemstationDadState) (last : Bool) (s : List ℕ) where
         dad-none n = heads ∙ rw (eq-eqb bytes 0 n) refl
 
         pub dad-first : (bytes ≡ 0 → ⊥) →
-            answer (Dad st) (readAt last (dadScan (st .«n_scans_left»)) 0 s) ≡ mapRead (stepped (flat doubles (double 0))) (readAt last (dadPoint (dadBegun (st .«n_scans_left») bytes (le (part 4 4 s)) (le (part 8 2 s)) (le (part 12 2 s))) []) 22 s)
+            answer (Dad st) (readAt last (dadScan (st .«n_scans_left»)) 0 s) ≡ mapRead (stepped (flat doubles (double 0))) (readAt last (dadPoint (dadBegun (st .«n_scans_left») (record { 0 = bytes }) (le (part 4 4 s)) (le (part 8 2 s)) (le (part 12 2 s))) []) 22 s)
         unfolding dadPoint
         dad-first n = heads ∙ rw (ne-eqb bytes 0 n) (sym (point-cleared le last 22 s (st .«cur_intensity») _))

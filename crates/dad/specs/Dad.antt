@@ -12,6 +12,7 @@ use Rattle.streams.specs.Changes.{Change, clears}
 use Rattle.streams.specs.Told.{Made, Told, told, delta, changeOf}
 use Rattle.streams.specs.Scanning.{Scanning, scanning}
 use Rattle.streams.specs.declared.ChemstationDadState.{ChemstationDadState}
+use Rattle.streams.specs.declared.Bytes.{Bytes}
 use Rattle.streams.specs.declared.Scans.{Scans}
 use Rattle.streams.specs.declared.Delta.{Delta}
 use Rattle.streams.specs.declared.Delta.the-variants.{By, Absolute}
@@ -40,18 +41,18 @@ dadMade st d = record {
 unfoldable pub dadPoint : ChemstationDadState → List Change → Rule Told
 dadPoint st first = mapRule (λ d. told (dadMade st d) (first ++ (changeOf d ∷ []))) (delta le)
 
--- a scan at its first point: 'value 0, scans − 1'
-abbrev pub dadBegun : Scans → ℕ → ℕ → ℕ → ℕ → ChemstationDadState
+-- a scan at its first point: 'scans − 1'. The value is cleared by the rule (`clears`); what stands here for it is not looked at
+abbrev pub dadBegun : Scans → Bytes → ℕ → ℕ → ℕ → ChemstationDadState
 dadBegun scans bytes time start step = record {
   «n_scans_left» = record { 0 = scans .0 - 1 };
-  «n_bytes_left» = record { 0 = bytes };
+  «n_bytes_left» = bytes;
   «cur_time» = double time;
   «cur_intensity» = double 0;
   «cur_wv» = double start;
   «wv_step» = double step;
 }
 
--- 'u16 type, not 67 is finished; u16 length minus 22, not below 0, is bytes due; u32 time; u16 start, end, step; 8 bytes; none due is finished'
+-- 'u16 type, not 67 is finished; u16 length minus 22, not below 0, is bytes due; u32 time; u16 start, end, step; 8 bytes; none due is finished; value 0'
 unfoldable pub dadScan : Scans → Rule Told
 dadScan scans = do
   type ← u16 le
@@ -63,7 +64,7 @@ dadScan scans = do
         end ← u16 le
         step ← u16 le
         skip 8
-        cond (eqb (size - 22) 0) ends (dadPoint (dadBegun scans (size - 22) time start step) (clears ∷ [])))
+        cond (eqb (size - 22) 0) ends (dadPoint (dadBegun scans (record { 0 = size - 22 }) time start step) (clears ∷ [])))
       ends
 
 -- 'Otherwise wavelength += step'

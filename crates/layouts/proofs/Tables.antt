@@ -7,7 +7,7 @@ use native.Mathlib.Omega.{arith}
 use lib.Dec.{leb, eqb}
 use lib.ListN.{getD, List·getD-eq-default, List·getD-map}
 use borrow.Author.Tests.{ne-eqb, eqb-true, leb-true, leb-false}
-use Rattle.agilent.proofs.Checks.{by-bool}
+use borrow.Table.Steps.{cases as by-bool}
 use Rattle.pascal.specs.Texts.{reach}
 use Rattle.layouts.specs.Table.{Row, among, look, texts, fieldOf, minima, offsets, multipliers, clocks}
 use Rattle.layouts.specs.Layouts.{editions, editionOf, startAt, widthAt, layoutOf, fieldBy}

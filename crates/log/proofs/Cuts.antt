@@ -20,6 +20,7 @@ use Rattle.log.specs.Runs.{linesOf, Ran, none, more}
 use Rattle.log.specs.Parts.{RestOf, record-line, end-line, headerText, LogOf, refused-run, opened-run, AnyCut}
 use Rattle.log.specs.Parts.{Reached, opens, logs, comes, ends as told-end, Came, all, some, Closes, unopened, opened}
 use Rattle.log.proofs.Logs.{lines-append}
+use Rattle.log.proofs.Exists.{there}
 
 -- ---- one reading
 
@@ -202,4 +203,4 @@ one kind F t u (opened-run {h = h} {n = n} {t = v} e r) (opened-run {h = i} {n =
     ap₂ (λ x l. headerText x ++ l) (sym this) (rest-one r (subst₂ (λ x k. RestOf (begins kind x) (drop k F) 0 w) this size s))
 
 pub any-cut : AnyCut
-any-cut = record { same = same; begins-so = begins-so; no-wait = no-wait; one = one }
+any-cut = record { same = same; begins-so = begins-so; no-wait = no-wait; there = there; one = one }

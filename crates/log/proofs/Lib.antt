@@ -1,3 +1,4 @@
 mod Logs
 mod Moves
+mod Exists
 pub mod Cuts

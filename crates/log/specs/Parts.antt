@@ -59,5 +59,6 @@ pub record AnyCut : Type 0 where
   pub begins-so : (kind : ℕ) (last : Bool) (A F bs t : List ℕ) (z : Stop) (count : ℕ) → Closes kind last A bs t z count → Came last A F → (u : List ℕ) → LogOf kind F u → (v : List ℕ) × (u ≡ t ++ v)
   -- which a run that was told the end never does
   pub no-wait : (kind : ℕ) (A bs t : List ℕ) (z : Stop) (count : ℕ) → Closes kind true A bs t z count → ¬ (z ≡ moreBytes)
-  -- a file has one log
+  -- a file has a log, and one only
+  pub there : (kind : ℕ) (F : List ℕ) → (t : List ℕ) × LogOf kind F t
   pub one : (kind : ℕ) (F t u : List ℕ) → LogOf kind F t → LogOf kind F u → t ≡ u

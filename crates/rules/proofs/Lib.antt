@@ -1,4 +1,5 @@
 pub mod Laws
+pub mod Takes
 pub mod Places
 pub mod Last
 pub mod Filling

@@ -37,7 +37,7 @@ pub record Utf8 (bs cs : List ℕ) : Type 0 where
   pub scalars : Scalars cs
   pub bytes : bs ≡ encodes cs
 
--- ---- A decoder, by Table 3-7. `text_laws` proves that it finds the scalars exactly where there are some.
+-- ---- A decoder, by Table 3-7. `utf8_laws` proves that it finds the scalars exactly where there are some.
 
 abbrev pub within : ℕ → ℕ → ℕ → Bool
 within low high b = leb low b && leb b high

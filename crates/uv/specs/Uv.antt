@@ -36,7 +36,7 @@ uvMade st scans =
 unfoldable pub uvPoint : ChemstationUvState → Scans → List Change → Rule Told
 uvPoint st scans first = mapRule (λ d. told (uvMade st scans) (first ++ (changeOf d ∷ []))) (delta le)
 
--- a scan before its first point: 'u32 time / 60000 ..; points (end − start)/step rounded down, plus 1; step / 20; wavelength start / 20 − that; value 0'
+-- a scan before its first point: 'u32 time / 60000 ..; points (end − start)/step rounded down, plus 1; step / 20; wavelength start / 20 − that'. The value is cleared by the rule (`clears`)
 abbrev pub uvBegun : ChemstationUvState → ℕ → ℕ → ℕ → ℕ → ChemstationUvState
 uvBegun st time start end step = record {
   «n_scans_left» = st .«n_scans_left»;
@@ -48,7 +48,7 @@ uvBegun st time start end step = record {
   «mult_correction» = st .«mult_correction»;
 }
 
--- '4 bytes, u32 time .., u16 start, end, step; ..; 8 bytes'; '12: UV start above end. 13: UV step 0'
+-- '4 bytes, u32 time .., u16 start, end, step; ..; value 0; 8 bytes'; '12: UV start above end. 13: UV step 0'
 unfoldable pub uvScan : ChemstationUvState → Rule Told
 uvScan st = do
   skip 4

@@ -161,7 +161,7 @@ module _ {s : Sum Float} {w : Sum ℤ} {n : ℕ} where
       every-scanning (dadScanning st)
       (every-then any λ type _. every-cond (eqb type 67)
       (λ t. every-then (unsigned le-below 2) λ size b. every-then any λ time _. every-then any λ start _. every-then any λ end _. every-then any λ step _. every-then any λ _ _.
-      every-cond (eqb (size - 22) 0) (λ t. at-ends) (λ t. dad-point (dadBegun (st .«n_scans_left») (size - 22) time start step) (clears ∷ []) (tt, tt) h (eqb-false (size - 22) 0 t) (omega arith)))
+      every-cond (eqb (size - 22) 0) (λ t. at-ends) (λ t. dad-point (dadBegun (st .«n_scans_left») (record { 0 = size - 22 }) time start step) (clears ∷ []) (tt, tt) h (eqb-false (size - 22) 0 t) (omega arith)))
       (λ t. at-ends))
       (λ z. dad-point (dadOnward st) [] tt h z l)
 
