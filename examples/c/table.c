@@ -3,8 +3,8 @@
  *     table [--log] KIND FILE
  *
  * KIND is a digit: 1 FID, 2 MS, 3 MWD, 4 DAD, 5 UV, 6 array. --log prints the log program's lines (README.md) in its place.
- * Status: 0 the run is printed to its end; 1 another answer closed it, or the output could not be written; 2 wrong usage, or a file
- * that cannot be read. */
+ * Status: 0 the run closed with 0; 1 another answer closed it, or the output could not be written; 2 wrong usage, or a file that
+ * cannot be read. */
 #include <errno.h>
 #include <math.h>
 #include <stdio.h>
@@ -20,7 +20,7 @@ static const char *const corrected[] = {"start", "end", "offset", "multiplier"};
 static const char *const texts[] = {"sample", "description", "operator", "instrument", "method", "signal name", "y units", "run date"};
 
 static const char *const meanings[] = {
-    "the run is printed to its end",
+    "the run ends by the rules of its kind",
     "no such kind; kinds are 1 to 6",
     "the header's size word is 0",
     "the header's size is below 512 bytes",

@@ -4,6 +4,7 @@
 # The result is target/oracle/oracle; the variable ORACLE_BUILD names another folder than target/oracle.
 set -euo pipefail
 
+[ "${1:-}" != --help ] || { sed -n '2,4s/^# //p' "$0"; exit 0; }
 [ $# = 1 ] || { sed -n '2,4s/^# //p' "$0" >&2; exit 2; }
 here=$(cd "$(dirname "$0")" && pwd)
 original=$(cd "$1" && pwd)

@@ -59,7 +59,7 @@ def one_by_one(command, cases):
     """The program's texts, a process for each case."""
     def run(case):
         try:
-            done = subprocess.run(command, input=case, stdout=subprocess.PIPE, timeout=PATIENCE)
+            done = subprocess.run(command, input=case, stdout=subprocess.PIPE, stderr=subprocess.DEVNULL, timeout=PATIENCE)
         except subprocess.TimeoutExpired:
             return 'no end within %d seconds\n' % PATIENCE
         return told(done.stdout, done.returncode)
@@ -73,7 +73,7 @@ def in_pieces(command, case, rng):
     most = max(rng.choice([1, 3, 50, 700, 5000, 40000]), len(case) // 2000)
     reading, writing = os.pipe()
     deadline = time.monotonic() + PATIENCE
-    with tempfile.TemporaryFile() as out, subprocess.Popen(command, stdin=reading, stdout=out) as program:
+    with tempfile.TemporaryFile() as out, subprocess.Popen(command, stdin=reading, stdout=out, stderr=subprocess.DEVNULL) as program:
         os.close(reading)
         try:
             at = 0

@@ -516,6 +516,8 @@ def prefixes(seed, number):
 
 
 if __name__ == '__main__':
+    if '--help' in sys.argv[1:]:
+        sys.exit(print(__doc__.strip()))
     if len(sys.argv) != 5:
         sys.exit(__doc__)
     folder = Path(sys.argv[4])

@@ -458,4 +458,6 @@ def report(stored, first, dropped):
 
 
 if __name__ == '__main__':
+    if '--help' in sys.argv[1:]:
+        sys.exit(print(__doc__.strip()))
     main()

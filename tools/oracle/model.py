@@ -435,6 +435,8 @@ def batch(frames, out):
 
 
 if __name__ == '__main__':
+    if '--help' in sys.argv[1:]:
+        sys.exit(print(__doc__.strip()))
     if len(sys.argv) != 2 or sys.argv[1] not in [*MODES, 'batch']:
         sys.exit(__doc__)
     given = sys.stdin.buffer.read()

@@ -8,7 +8,7 @@ use borrow.Author.Tests.{leb-true, le-leb, lt-leb, lt-ltb}
 use lib.Dec.{leb, ltb}
 use lib.ListN.{length, take, drop, length-drop, take-append-drop}
 use lib.Seq.{take-append-le, drop-append-le, take-add, length-take-le}
-use Rattle.rules.specs.Rule.{Rule, gives, _>>=_, _>>_, number, Stop, Read, got, stops, refused, read, readAt, mapRead}
+use Rattle.rules.specs.Rule.{Rule, gives, _>>=_, _>>_, bytesAs, Stop, Read, got, stops, refused, read, readAt, mapRead}
 use Rattle.rules.proofs.Laws.{read-map, by-fit, got≢stops}
 use Rattle.rules.proofs.Places.{at-start, at-number, at-gives, at-cut, more-number, none, cut}
 use Rattle.common.specs.Bytes.{be, part}
@@ -27,7 +27,7 @@ part-take at w n s h =
 
 -- behind the first 268 bytes, by the size word: the checks, and what is due then
 abbrev rest : ℕ → List ℕ → Rule (List ℕ)
-rest size begin = number (size - 268) (λ b. b) >>= λ b. gives (begin ++ b)
+rest size begin = bytesAs (size - 268) (λ b. b) >>= λ b. gives (begin ++ b)
 
 abbrev sized : ℕ → ℕ → List ℕ → Rule (List ℕ)
 sized kind word begin = do

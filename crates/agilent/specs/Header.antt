@@ -4,7 +4,7 @@ use mathlib.Core.List.{List, _++_}
 use Prim.Native.Nat.{ℕ, _-_, _*_}
 use lib.Dec.{leb, ltb, eqb}
 use lib.ListN.{length}
-use Rattle.rules.specs.Rule.{Rule, gives, refuses, _>>=_, _>>_, number, mapRule, Read, got, stops}
+use Rattle.rules.specs.Rule.{Rule, gives, refuses, _>>=_, _>>_, bytesAs, mapRule, Read, got, stops}
 use Rattle.error.specs.Number.{stopOf}
 use Rattle.common.specs.Bytes.{be, part}
 use Rattle.agilent.specs.declared.HeaderSize.{HeaderSize}
@@ -26,11 +26,11 @@ sizeOf kind word = cond (eqb kind 2) (2 * (word - 1)) (2 * (word - 1) * 256)
 unfoldable pub headerRule : ℕ → Rule (List ℕ)
 headerRule kind = do
   check (known kind) 1
-  begin ← number 268 λ b. b
+  begin ← bytesAs 268 λ b. b
   check (ltb 0 (be (part 264 4 begin))) 2
   check (leb 512 (sizeOf kind (be (part 264 4 begin)))) 3
   check (leb (sizeOf kind (be (part 264 4 begin))) 20000) 4
-  rest ← number (sizeOf kind (be (part 264 4 begin)) - 268) λ b. b
+  rest ← bytesAs (sizeOf kind (be (part 264 4 begin)) - 268) λ b. b
   gives (begin ++ rest)
 
 -- Size the header

@@ -27,6 +27,8 @@ fn header_size(kind: u8, word: u32) -> usize
 pub fn read_agilent_header(kind: u8, s: &[u8], last: bool) -> HeaderSize
     ensures { λ r. ⌜ sizeRead r ≡ read last (sizeRule kind) (now (s .entry)) ⌝ }
 {
+    // where a due field ends past the bytes
+    let short = HeaderSize::Stopped(cut(last));
     if kind < 1 {
         return HeaderSize::Stopped(Stopped::Refused(Refusal::UnknownKind));
     }
@@ -34,7 +36,7 @@ pub fn read_agilent_header(kind: u8, s: &[u8], last: bool) -> HeaderSize
         return HeaderSize::Stopped(Stopped::Refused(Refusal::UnknownKind));
     }
     if s.len() < 268 {
-        return HeaderSize::Stopped(cut(last));
+        return short;
     }
     let word = be_u32(s, 264);
     if word == 0 {
@@ -48,7 +50,8 @@ pub fn read_agilent_header(kind: u8, s: &[u8], last: bool) -> HeaderSize
         return HeaderSize::Stopped(Stopped::Refused(Refusal::HeaderTooLarge));
     }
     if s.len() < size {
-        return HeaderSize::Stopped(cut(last));
+        short
+    } else {
+        HeaderSize::Bytes(size)
     }
-    HeaderSize::Bytes(size)
 }

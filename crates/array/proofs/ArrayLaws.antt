@@ -8,7 +8,7 @@ use native.Mathlib.Omega.{arith}
 use lib.Ieee.{Float}
 use lib.ListN.{length}
 use borrow.Author.Tests.{eq-eqb, ne-eqb}
-use Rattle.rules.specs.Rule.{finished, got, stops, read, readAt, number, mapRule}
+use Rattle.rules.specs.Rule.{finished, got, stops, read, readAt, bytesAs, mapRule}
 use Rattle.rules.proofs.Places.{at-start, at-gives, at-cut, more-number, none, cut}
 use Rattle.common.specs.Bytes.{part}
 use Rattle.streams.specs.Told.{told}
@@ -25,8 +25,8 @@ module _ (st : ChemstationArrayState) (last : Bool) (s : List ℕ) where
   array-none e = rule-reads (Array st) (arrayRule st) last s {x = stops finished} (rw (eq-eqb _ _ e))
 
   -- w bytes store the number that g makes of them
-  module _ (w : ℕ) (g : List ℕ → Float) (due : st .«n_scans_left» .0 ≡ 0 → ⊥) (stores : stored (st .«record_type») ≡ number w g) where
-    begins : read last (arrayRule st) s ≡ readAt last (mapRule (λ x. told (arrayMade st x) []) (number w g)) 0 s
+  module _ (w : ℕ) (g : List ℕ → Float) (due : st .«n_scans_left» .0 ≡ 0 → ⊥) (stores : stored (st .«record_type») ≡ bytesAs w g) where
+    begins : read last (arrayRule st) s ≡ readAt last (mapRule (λ x. told (arrayMade st x) []) (bytesAs w g)) 0 s
     unfolding arrayRule
     begins = rw (ne-eqb _ _ due, stores) (sym (at-start last _ s))
 

@@ -4,7 +4,7 @@ use mathlib.Core.List.{[]}
 use Prim.Native.Nat.{_-_}
 use lib.Dec.{eqb}
 use lib.Ieee.{Float, binary32, binary64, add, mul, ofBits}
-use Rattle.rules.specs.Rule.{Rule, ends, number, mapRule}
+use Rattle.rules.specs.Rule.{Rule, ends, bytesAs, mapRule}
 use Rattle.common.specs.Bytes.{le}
 use Rattle.streams.specs.Told.{Made, Told, told}
 use Rattle.streams.specs.declared.ChemstationArrayState.{ChemstationArrayState}
@@ -31,8 +31,8 @@ arrayMade st x =
 
 -- 'LE f64 if .., else LE f32 widened'
 abbrev pub stored : ChemstationArrayRecordType → Rule Float
-stored Float64Array = number 8 λ b. ofBits binary64 (le b)
-stored Float32Array = number 4 λ b. ofBits binary32 (le b)
+stored Float64Array = bytesAs 8 λ b. ofBits binary64 (le b)
+stored Float32Array = bytesAs 4 λ b. ofBits binary32 (le b)
 
 unfoldable pub arrayRule : ChemstationArrayState → Rule Told
 arrayRule st = cond (eqb (st .«n_scans_left» .0) 0) ends (mapRule (λ x. told (arrayMade st x) []) (stored (st .«record_type»)))

@@ -3,15 +3,16 @@ use mathlib.Core.Path.{_≡_, refl, sym, ap, ap₂, _∙_}
 use mathlib.Core.Bool.{Bool}
 use mathlib.Core.List.{List, [], _∷_}
 use Prim.Native.Nat.{ℕ}
-use Rattle.rules.specs.Rule.{Read, got, stops}
+use Rattle.rules.specs.Rule.{Read, got, stops, read, mapRead}
 use Rattle.rules.proofs.Laws.{got≢stops}
 use Rattle.error.specs.Number.{stopOf, stopNumber, closingNumber}
-use Rattle.metadata.specs.Metadata.{Header}
+use Rattle.metadata.specs.Metadata.{Header, openRule}
 use Rattle.fetch.specs.Fetch.{outcomeOf, Fetches}
 use Rattle.metadata.specs.declared.ChemstationMetadata.{ChemstationMetadata}
 use Rattle.fetch.specs.declared.Fetched.{Fetched}
 use Rattle.streams.specs.declared.State.{State}
 use Rattle.opening.specs.Opening.{begins, startRead, saysRead, OpensRun}
+use Rattle.opening.proofs.HeaderOpens.{state-by, says-by}
 use Rattle.reader.specs.Columns.{Columns, closingOf, fillOf, FilledBy}
 use Rattle.opening.specs.declared.Opening.{Opening}
 use Rattle.opening.specs.declared.Opening.the-variants as opening
@@ -32,20 +33,21 @@ abbrev openingMemory : ChemstationMetadata → Opening → Run → Run
 openingMemory d (opening.Run st n) old = openedAs d st
 openingMemory d (opening.Stopped z) old = old
 
-pub opens-into : (kind : ℕ) (x : Read Header) (r : OpenedRun) (a : Opening) (old : Run) → OpensRun kind x r → r .answer ≡ a →
-    OpensInto kind x (openingNumber a) (record { entry = old; exit = openingMemory (r .metadata) a old })
-opens-into kind (got h n) r (opening.Run st m) old o e =
-    let p = ap startRead (sym e) ∙ o .state in
-    let q = ap (saysRead (r .metadata)) (sym e) ∙ o .says in
-    let d : r .metadata ≡ h .says = cc in
-    let s : st ≡ begins kind h = cc in
-    record { answer = refl; memory = ap₂ openedAs d s }
-opens-into kind (got h n) r (opening.Stopped z) old o e = absurd (got≢stops (sym (ap startRead (sym e) ∙ o .state)))
-opens-into kind (stops z) r (opening.Run st m) old o e = absurd (got≢stops (ap startRead (sym e) ∙ o .state))
-opens-into kind (stops z) r (opening.Stopped y) old o e =
-    let p = ap startRead (sym e) ∙ o .state in
+opened-into : (kind : ℕ) (x : Read Header) (d : ChemstationMetadata) (a : Opening) (old : Run) → startRead a ≡ mapRead (begins kind) x → saysRead d a ≡ mapRead (λ h. h .says) x →
+    OpensInto kind x (openingNumber a) (record { entry = old; exit = openingMemory d a old })
+opened-into kind (got h n) d (opening.Run st m) old p q =
+    let described : d ≡ h .says = cc in
+    let begun : st ≡ begins kind h = cc in
+    record { answer = refl; memory = ap₂ openedAs described begun }
+opened-into kind (got h n) d (opening.Stopped z) old p q = absurd (got≢stops (sym p))
+opened-into kind (stops z) d (opening.Run st m) old p q = absurd (got≢stops p)
+opened-into kind (stops z) d (opening.Stopped y) old p q =
     let same : stopOf y ≡ z = cc in
     record { answer = ap stopNumber same; memory = refl }
+
+pub opens-into : {kind : ℕ} {last : Bool} {s : List ℕ} {r : OpenedRun} (a : Opening) (old : Run) → OpensRun kind last s r → r .answer ≡ a →
+    OpensInto kind (read last (openRule kind) s) (openingNumber a) (record { entry = old; exit = openingMemory (r .metadata) a old })
+opens-into {r = r} a old o e = opened-into _ _ (r .metadata) a old (ap startRead (sym e) ∙ state-by o) (ap (saysRead (r .metadata)) (sym e) ∙ says-by o)
 
 -- ---- Fetch a text
 

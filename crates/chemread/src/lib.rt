@@ -29,7 +29,7 @@ fn stop_number(z: Stopped) -> u8
     ensures { λ n. ⌜ n ≡ stopNumber (stopOf z) ⌝ }
 {
     match z {
-        Stopped::Refused(r) => error::number(r),
+        Stopped::Refused(r) => error::number_of(r),
         Stopped::Finished => 0,
         Stopped::MoreBytes => MORE_BYTES,
     }
@@ -118,7 +118,7 @@ pub extern "C" fn chemstation_text(
     ensures { λ r. ⌜ FetchesInto (read true (fetchRule kind number) (now (s .entry))) r (lentText out length) ⌝ }
 {
     match fetch::fetch_text(kind, number, s, out) {
-        Fetched::Refused(r) => error::number(r),
+        Fetched::Refused(r) => error::number_of(r),
         Fetched::Text(n) => {
             *length = n;
             GIVEN
@@ -148,7 +148,7 @@ pub extern "C" fn chemstation_fill(
     match states::state_of(x, n) {
         Kept::NoKind => {
             *given = [0, 0];
-            error::number(Refusal::UnknownKind)
+            error::number_of(Refusal::UnknownKind)
         }
         Kept::State(st) => {
             let f = reader::fill_columns(st, s, last, time, axis, unscaled, scaled);

@@ -6,7 +6,7 @@ use Prim.Native.Nat.{ℕ, _-_, _*_, _^_, _≤_, _<_}
 use native.Mathlib.Omega.{arith}
 use lib.IntN.{natAbs}
 use lib.ListN.{length, take, drop, length-take}
-use Rattle.rules.specs.Rule.{Rule, gives, field, refuses, ends, Read, got, stops, taking, read, _>>=_, number, mayEnd}
+use Rattle.rules.specs.Rule.{Rule, gives, field, refuses, ends, Read, got, stops, taking, read, _>>=_, bytesAs, mayEnd}
 use Rattle.rules.proofs.Laws.{by-fit, read-fits, read-past}
 use Rattle.common.specs.Bytes.{signed, AreBytes}
 use Rattle.common.proofs.Sizes.{bytes-take, bytes-drop, Order, signed-within}
@@ -57,12 +57,12 @@ every-may-end at-ends = at-ends
 
 -- ---- a field, whatever it says, or by how large a number it is
 
-pub any : {A : Type 0} {w : ℕ} {g : List ℕ → A} → Every (λ _. Unit) (number w g)
+pub any : {A : Type 0} {w : ℕ} {g : List ℕ → A} → Every (λ _. Unit) (bytesAs w g)
 any = at-field λ bs b l. at-gives tt
 
 module _ {order : List ℕ → ℕ} (o : Order order) where
-  pub unsigned : (w : ℕ) → Every (λ n. n < 256 ^ w) (number w order)
+  pub unsigned : (w : ℕ) → Every (λ n. n < 256 ^ w) (bytesAs w order)
   unsigned w = at-field λ bs b l. at-gives (subst (λ n. order bs < 256 ^ n) l (o bs b))
 
-  pub twos-complement : (w : ℕ) → Every (λ v. natAbs v ≤ 2 ^ (8 * w - 1)) (number w (signed order))
+  pub twos-complement : (w : ℕ) → Every (λ v. natAbs v ≤ 2 ^ (8 * w - 1)) (bytesAs w (signed order))
   twos-complement w = at-field λ bs b l. at-gives (subst (λ n. natAbs (signed order bs) ≤ 2 ^ (8 * n - 1)) l (signed-within o bs b))

@@ -8,11 +8,11 @@ use Rattle.rules.proofs.Demand.{demand}
 use Rattle.common.proofs.Every.{Every, at-gives, at-field, at-refuses, at-ends, every-then}
 use Rattle.metadata.specs.Metadata.{Header, openRule}
 use Rattle.chemstation.specs.Next.{rule}
-use Rattle.whole.specs.Whole.{Kind}
+use Rattle.whole.specs.Readings.{Begins}
 use Rattle.streams.specs.declared.State.{State}
-use Rattle.whole.proofs.Exactly.{Opened, exact-calls}
+use Rattle.whole.proofs.Exactly.{exact-calls}
 use Rattle.opening.specs.Opening.{begins, startRule}
-use Rattle.demand3.specs.Demand3.{kindAt, Demand3Holds}
+use Rattle.demand3.specs.Demand3.{Demand3Holds}
 
 any-outcome : {A : Type 0} (r : Rule A) → Every (λ _. Unit {0}) r
 any-outcome (gives a) = at-gives tt
@@ -21,22 +21,22 @@ any-outcome (refuses c) = at-refuses
 any-outcome ends = at-ends
 
 -- a state before the first record, by the tests on the kind
-opened-by : (b : Bool) {j k : Kind} {st : State} (other : State) → Opened j st → Opened k other → Opened (cond b j k) (cond b st other)
-opened-by true other p q = p
-opened-by false other p q = q
+begun-by : (b : Bool) {st : State} (other : State) → Begins st → Begins other → Begins (cond b st other)
+begun-by true other p q = p
+begun-by false other p q = q
 
-opened : (kind : ℕ) (x : Header) → Opened (kindAt kind) (begins kind x)
+begun : (kind : ℕ) (x : Header) → Begins (begins kind x)
 unfolding begins
-opened kind x =
-    opened-by (eqb kind 1) _ (record { kind = refl; begins = record { sum = refl; due = refl } })
-    (opened-by (eqb kind 2) _ (record { kind = refl; begins = record { sum = refl; due = refl } })
-    (opened-by (eqb kind 3) _ (record { kind = refl; begins = record { sum = refl; due = refl } })
-    (opened-by (eqb kind 4) _ (record { kind = refl; begins = record { sum = refl; due = refl } })
-    (opened-by (eqb kind 5) _ (record { kind = refl; begins = record { sum = refl; due = refl } })
-    (record { kind = refl; begins = record { sum = refl; due = refl } })))))
+begun kind x =
+    begun-by (eqb kind 1) _ (record { sum = refl; due = refl })
+    (begun-by (eqb kind 2) _ (record { sum = refl; due = refl })
+    (begun-by (eqb kind 3) _ (record { sum = refl; due = refl })
+    (begun-by (eqb kind 4) _ (record { sum = refl; due = refl })
+    (begun-by (eqb kind 5) _ (record { sum = refl; due = refl })
+    (record { sum = refl; due = refl })))))
 
-opens : (kind : ℕ) → Every (Opened (kindAt kind)) (startRule kind)
-opens kind = every-then (any-outcome (openRule kind)) λ x _. at-gives (opened kind x)
+opens : (kind : ℕ) → Every Begins (startRule kind)
+opens kind = every-then (any-outcome (openRule kind)) λ x _. at-gives (begun kind x)
 
 pub demand3 : Demand3Holds
 demand3 kind cs F G f g h = record { calls = demand rule (startRule kind) cs F G h; exact = exact-calls (opens kind) cs F h f }

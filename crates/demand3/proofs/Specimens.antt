@@ -1,6 +1,6 @@
 -- The specimens: one computation, a test, so that a specimen that is not met is refused at once; and the equation that the test shows.
-use mathlib.Core.Path.{_≡_, refl, ap₂}
-use mathlib.Core.Bool.{Bool, true, _&&_}
+use mathlib.Core.Path.{_≡_, refl, ap, ap₂}
+use mathlib.Core.Bool.{Bool, true, false, _&&_}
 use mathlib.Core.List.{List, [], _∷_}
 use Prim.Native.Nat.{ℕ}
 use lib.Dec.{T, eqb, eqb→eq}
@@ -8,8 +8,12 @@ use lib.Ieee.{add, mul, div, sub, ofInt, ofBits, toBits}
 use mir.Facts.{and-yes}
 use Rattle.rules.specs.Rule.{read, _>>=_}
 use Rattle.rules.specs.Calls.{readUpTo}
+use Rattle.utf8.specs.Utf8.{decode}
+use Rattle.trim.specs.WhiteSpace.{trimmedOf}
 use Rattle.agilent.specs.Header.{headerRule}
-use Rattle.metadata.specs.Metadata.{blank}
+use Rattle.pascal.specs.Texts.{pascal, textRule}
+use Rattle.metadata.specs.Metadata.{textsRule, describedBy, metadataRule, openRule}
+use Rattle.layouts.specs.Table.{minima, texts}
 use Rattle.streams.specs.Told.{delta}
 use Rattle.streams.specs.Scanning.{scanning}
 use Rattle.fid.specs.Fid.{fidRule}
@@ -18,7 +22,7 @@ use Rattle.mwd.specs.Mwd.{mwdPoint, mwdRule}
 use Rattle.dad.specs.Dad.{dadPoint, dadScan}
 use Rattle.uv.specs.Uv.{uvPoint, uvScan}
 use Rattle.opening.specs.Opening.{sameBytes, begins}
-use Rattle.demand3.specs.Specimens.{Specimen, answered, specimens, AllGive}
+use Rattle.demand3.specs.Specimens.{Reply, sized, refusal, gave, Specimen, answered, specimens, AllGive}
 
 same-is : (l m : List ℕ) → T (sameBytes l m) → l ≡ m
 same-is [] [] t = refl
@@ -26,16 +30,30 @@ same-is [] (b ∷ bs) t = absurd t
 same-is (a ∷ r) [] t = absurd t
 same-is (a ∷ r) (b ∷ bs) t = let p = and-yes (eqb a b) (sameBytes r bs) t in ap₂ (λ x xs. x ∷ xs) (eqb→eq a b (p .0)) (same-is r bs (p .1))
 
+abbrev sameReply : Reply → Reply → Bool
+sameReply (sized m) = elim [ sized n ↦ eqb m n | refusal n ↦ false | gave r n ↦ false ]
+sameReply (refusal m) = elim [ sized n ↦ false | refusal n ↦ eqb m n | gave r n ↦ false ]
+sameReply (gave l m) = elim [ sized n ↦ false | refusal n ↦ false | gave r n ↦ sameBytes l r && eqb m n ]
+
+reply-is : (x y : Reply) → T (sameReply x y) → x ≡ y
+reply-is (sized m) = elim [ sized n ↦ λ t. ap sized (eqb→eq m n t) | refusal n ↦ λ t. absurd t | gave r n ↦ λ t. absurd t ]
+reply-is (refusal m) = elim [ sized n ↦ λ t. absurd t | refusal n ↦ λ t. ap refusal (eqb→eq m n t) | gave r n ↦ λ t. absurd t ]
+reply-is (gave l m) = elim [
+  | sized n ↦ λ t. absurd t
+  | refusal n ↦ λ t. absurd t
+  | gave r n ↦ λ t. let p = and-yes (sameBytes l r) (eqb m n) t in ap₂ gave (same-is l r (p .0)) (eqb→eq m n (p .1))
+]
+
 abbrev test : List Specimen → Bool
 test [] = true
-test (s ∷ ss) = sameBytes (answered (s .does)) (s .answers) && test ss
+test (s ∷ ss) = sameReply (answered (s .does)) (s .answers) && test ss
 
 all-give : (ss : List Specimen) → T (test ss) → AllGive ss
 all-give [] t = refl
-all-give (s ∷ ss) t = let p = and-yes (sameBytes (answered (s .does)) (s .answers)) (test ss) t in ap₂ (λ x xs. x ∷ xs) (same-is (answered (s .does)) (s .answers) (p .0)) (all-give ss (p .1))
+all-give (s ∷ ss) t = let p = and-yes (sameReply (answered (s .does)) (s .answers)) (test ss) t in ap₂ (λ x xs. x ∷ xs) (reply-is (answered (s .does)) (s .answers) (p .0)) (all-give ss (p .1))
 
 computed : T (test specimens)
-unfolding specimens read _>>=_ readUpTo headerRule blank begins delta fidRule msPoint msScans mwdPoint mwdRule dadPoint dadScan uvPoint uvScan scanning add mul div sub ofInt ofBits toBits
+unfolding specimens read _>>=_ readUpTo headerRule metadataRule textsRule openRule describedBy textRule pascal trimmedOf decode minima texts begins delta fidRule msPoint msScans mwdPoint mwdRule dadPoint dadScan uvPoint uvScan scanning add mul div sub ofInt ofBits toBits
 computed = tt
 
 pub they-give : AllGive specimens

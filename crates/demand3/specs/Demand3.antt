@@ -1,18 +1,12 @@
 -- Demand 3, whole: one theorem for all kinds, any byte strings F and G and any list of calls (docs/DEMAND-3.md sets its clauses beside document 01's).
-use mathlib.Core.Bool.{cond}
 use mathlib.Core.List.{List}
 use Prim.Native.Nat.{ℕ, _≤_}
-use lib.Dec.{eqb}
 use Rattle.rules.specs.Rule.{Rule, mapRule}
 use Rattle.rules.specs.Calls.{Call, asked, byCalls, byRules, Demand}
 use Rattle.common.specs.Bytes.{AreBytes}
 use Rattle.chemstation.specs.Next.{rule}
-use Rattle.whole.specs.Whole.{Kind, fid, ms, mwd, dad, uv, array, Whole, wholeRule, atOpen, AllExact}
+use Rattle.whole.specs.Whole.{Whole, wholeRule, atOpen, AllExact}
 use Rattle.opening.specs.Opening.{startRule}
-
--- the kind of a number; Open has refused any other
-abbrev pub kindAt : ℕ → Kind
-kindAt kind = cond (eqb kind 1) fid (cond (eqb kind 2) ms (cond (eqb kind 3) mwd (cond (eqb kind 4) dad (cond (eqb kind 5) uv array))))
 
 -- 'the value that a stream's rules give, worked from the bytes alone in whole numbers never rounded, 0 at Open'
 abbrev wholeStart : ℕ → Rule Whole
@@ -22,7 +16,7 @@ pub record Demand3 (kind : ℕ) (cs : List Call) (F G : List ℕ) : Type 0 where
   -- R and Z are what the rules give; R begins S; unless Z is 'more bytes' S is R and Y is Z; and Z is 'more bytes' exactly when R is short and a due field ends past F
   pub calls : Demand rule (startRule kind) cs F G
   -- each unscaled intensity of R is the whole number that the bytes add up to
-  pub exact : AllExact (kindAt kind) ((byCalls rule (startRule kind) cs F) .records) ((byRules wholeRule (wholeStart kind) (asked cs) F) .records)
+  pub exact : AllExact ((byCalls rule (startRule kind) cs F) .records) ((byRules wholeRule (wholeStart kind) (asked cs) F) .records)
 
 -- of the kind nothing is assumed, of F and G that they are bytes, of the calls that they ask for a record
 abbrev pub Demand3Holds : Type 0

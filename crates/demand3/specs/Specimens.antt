@@ -1,58 +1,82 @@
 -- Document 01's marked specimens, in one list: an operation on an input, and what it must answer.
 use mathlib.Core.Path.{_≡_}
-use mathlib.Core.Bool.{true}
+use mathlib.Core.Bool.{true, cond}
 use mathlib.Core.List.{List, [], _∷_, _++_, map}
 use Prim.Native.Nat.{ℕ, _/_, _%_}
 use lib.IntN.{ℤ, pos, negsuc}
 use lib.Ieee.{binary64, ofInt, toBits}
-use lib.ListN.{replicate}
+use lib.Dec.{eqb}
+use lib.ListN.{replicate, drop}
 use Rattle.rules.specs.Rule.{Read, got, stops, read}
 use Rattle.rules.specs.Calls.{Reading, readUpTo}
 use Rattle.error.specs.Number.{stopNumber, closingNumber}
 use Rattle.agilent.specs.Header.{sizeRule}
-use Rattle.floats.specs.Doubles.{double}
-use Rattle.metadata.specs.Metadata.{blank}
 use Rattle.chemstation.specs.Next.{rule}
 use Rattle.streams.specs.declared.State.{State}
 use Rattle.streams.specs.declared.Record.{Record}
 use Rattle.whole.specs.Whole.{unscaledOf}
-use Rattle.opening.specs.Opening.{begins}
+use Rattle.opening.specs.Opening.{startRule}
 
 pub data Operation : Type 0 where
   sizes : ℕ → ℕ → Operation  -- Size the header: a kind and a size word
-  streams : ℕ → ℕ → List ℕ → Operation  -- the records of a stream told last: a kind, the scans due and the bytes behind the header
+  streams : ℕ → ℕ → List ℕ → Operation  -- Open, then the records, told last: a kind, the scans due and the bytes behind the header
 
-abbrev sizeNumber : Read ℕ → ℕ
-sizeNumber (got n k) = n
-sizeNumber (stops z) = stopNumber z
+pub data Reply : Type 0 where
+  sized : ℕ → Reply  -- a header's size, in bytes
+  refusal : ℕ → Reply  -- of a header, by its number
+  gave : List ℕ → ℕ → Reply  -- the bits of the unscaled intensities, and the closing answer by its number
 
--- 20,000 bytes, zero but for the size word
-abbrev headerOf : ℕ → List ℕ
-headerOf word = replicate 264 0 ++ ((word / 16777216) ∷ (word / 65536 % 256) ∷ (word / 256 % 256) ∷ (word % 256) ∷ replicate 19732 0)
+-- ---- the files
 
--- the bits of the unscaled intensities, and the closing answer
-abbrev readingNumbers : Reading State Record → List ℕ
-readingNumbers g = map (λ r. toBits binary64 (unscaledOf r)) (g .records) ++ (closingNumber (g .closing) ∷ [])
+abbrev zeros : ℕ → List ℕ
+zeros n = replicate n 0
 
-abbrev pub answered : Operation → List ℕ
-answered (sizes kind word) = sizeNumber (read true (sizeRule kind) (headerOf word)) ∷ []
-answered (streams kind scans bs) = readingNumbers (readUpTo rule true 16 (begins kind (record { bytes = []; says = blank; scans = scans; step = double 0 })) bs)
+-- a u32, BE
+abbrev word : ℕ → List ℕ
+word n = (n / 16777216) ∷ (n / 65536 % 256) ∷ (n / 256 % 256) ∷ (n % 256) ∷ []
+
+-- the edition at 248, the size word at 264 and the scans due at 278; all else is zero up to 282, where the rest begins
+abbrev fileOf : ℕ → ℕ → ℕ → List ℕ → List ℕ
+fileOf edition size scans rest = zeros 248 ++ (word edition ++ (zeros 12 ++ (word size ++ (zeros 10 ++ (word scans ++ rest)))))
+
+-- 20,000 bytes
+abbrev sizeFile : ℕ → List ℕ
+sizeFile size = fileOf 0 size 0 (zeros 19718)
+
+-- a header of edition 2 and 512 bytes, and a stream behind it
+abbrev streamFile : ℕ → ℕ → List ℕ → List ℕ
+streamFile kind scans bs = fileOf 2 (cond (eqb kind 2) 257 2) scans (zeros 230 ++ bs)
+
+-- ---- what the operations answer
+
+abbrev sizing : Read ℕ → Reply
+sizing (got n k) = sized n
+sizing (stops z) = refusal (stopNumber z)
+
+abbrev giving : Reading State Record → Reply
+giving g = gave (map (λ r. toBits binary64 (unscaledOf r)) (g .records)) (closingNumber (g .closing))
+
+abbrev running : List ℕ → Read State → Reply
+running F (got st n) = giving (readUpTo rule true 16 st (drop n F))
+running F (stops z) = refusal (stopNumber z)
+
+abbrev pub answered : Operation → Reply
+answered (sizes kind size) = sizing (read true (sizeRule kind) (sizeFile size))
+answered (streams kind scans bs) = let F = streamFile kind scans bs in running F (read true (startRule kind) F)
+
+-- ---- the list
 
 -- whole numbers as unscaled intensities, and a closing answer
-abbrev values : List ℤ → ℕ → List ℕ
-values zs closing = map (λ z. toBits binary64 (ofInt binary64 z)) zs ++ (closing ∷ [])
+abbrev values : List ℤ → ℕ → Reply
+values zs closing = gave (map (λ z. toBits binary64 (ofInt binary64 z)) zs) closing
 
 pub record Specimen : Type 0 where
   pub does : Operation
-  pub answers : List ℕ
+  pub answers : Reply
 
 infix 5 _gives_
-abbrev _gives_ : Operation → List ℕ → Specimen
+abbrev _gives_ : Operation → Reply → Specimen
 o gives a = record { does = o; answers = a }
-
--- bytes that are passed over
-abbrev zeros : ℕ → List ℕ
-zeros n = replicate n 0
 
 -- the head of a DAD scan of length 26: two deltas of two bytes
 abbrev dadDeltas : List ℕ
@@ -60,15 +84,15 @@ dadDeltas = 67 ∷ 0 ∷ 26 ∷ 0 ∷ (zeros 18 ++ (10 ∷ 0 ∷ 246 ∷ 255 ∷
 
 unfoldable pub specimens : List Specimen
 specimens =
-    (sizes 1 0 gives 2 ∷ [])
-    ∷ (sizes 1 1 gives 3 ∷ [])
-    ∷ (sizes 1 2 gives 512 ∷ [])
-    ∷ (sizes 1 40 gives 19968 ∷ [])
-    ∷ (sizes 1 41 gives 4 ∷ [])
-    ∷ (sizes 2 256 gives 3 ∷ [])
-    ∷ (sizes 2 257 gives 512 ∷ [])
-    ∷ (sizes 2 10001 gives 20000 ∷ [])
-    ∷ (sizes 2 10002 gives 4 ∷ [])
+    (sizes 1 0 gives refusal 2)
+    ∷ (sizes 1 1 gives refusal 3)
+    ∷ (sizes 1 2 gives sized 512)
+    ∷ (sizes 1 40 gives sized 19968)
+    ∷ (sizes 1 41 gives refusal 4)
+    ∷ (sizes 2 256 gives refusal 3)
+    ∷ (sizes 2 257 gives sized 512)
+    ∷ (sizes 2 10001 gives sized 20000)
+    ∷ (sizes 2 10002 gives refusal 4)
     -- FID 00 05 00 02 FF FF, then 7F FF 00 00 00 01 00 03 00 04
     ∷ (streams 1 0 (0 ∷ 5 ∷ 0 ∷ 2 ∷ 255 ∷ 255 ∷ 127 ∷ 255 ∷ 0 ∷ 0 ∷ 0 ∷ 1 ∷ 0 ∷ 3 ∷ 0 ∷ 4 ∷ []) gives values (pos 5 ∷ pos 12 ∷ pos 18 ∷ pos 65537 ∷ pos 65541 ∷ []) 0)
     -- MWD 10 02 00 05 80 00 FF FF FF FE 10 01 00 03

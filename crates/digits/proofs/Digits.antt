@@ -20,7 +20,7 @@ by-test d false e h = omega (arith, ltb-false d 10 e)
 pub no-branch : (d : ℕ) → d < 16 → 48 + d + (d + 6) / 16 * 7 ≡ digit d
 no-branch d h = by-test d (ltb d 10) refl h
 
-length-digits : (b k n : ℕ) → length (digits b k n) ≡ k
+pub length-digits : (b k n : ℕ) → length (digits b k n) ≡ k
 length-digits b zero n = refl
 length-digits b (suc k) n = length-append (digits b k (n / b)) (digit (n % b) ∷ []) ∙ rw (length-digits b k (n / b)) (add-one k)
 
@@ -72,7 +72,7 @@ module _ {base k n : ℕ} {old : List ℕ} {at : ℕ} where
 
 -- ---- counting them
 
-places-low : (others n : ℕ) → places others n ≤ suc others
+pub places-low : (others n : ℕ) → places others n ≤ suc others
 places-low zero n = omega arith
 places-low (suc others) n = go (ltb n 10) (places-low others (n / 10))
   where

@@ -1,3 +1,3 @@
 pub mod Puts
-mod Digits
+pub mod Digits
 mod Words

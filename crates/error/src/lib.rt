@@ -34,7 +34,7 @@ pub enum Stopped {
 }
 
 // Document 01's number of a refusal.
-pub fn number(r: Refusal) -> u8
+pub fn number_of(r: Refusal) -> u8
     ensures { λ n. ⌜ n ≡ numberOf r ⌝ }
 {
     match r {

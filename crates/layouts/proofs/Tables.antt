@@ -9,7 +9,7 @@ use lib.ListN.{getD, List·getD-eq-default, List·getD-map}
 use borrow.Author.Tests.{ne-eqb, eqb-true, leb-true, leb-false}
 use borrow.Table.Steps.{cases as by-bool}
 use Rattle.pascal.specs.Texts.{reach}
-use Rattle.layouts.specs.Table.{Row, among, look, texts, fieldOf, minima, offsets, multipliers, clocks}
+use Rattle.layouts.specs.Table.{Entry, among, look, texts, fieldOf, minima, offsets, multipliers, clocks}
 use Rattle.layouts.specs.Layouts.{editions, editionOf, startAt, widthAt, layoutOf, fieldBy}
 use Rattle.layouts.specs.declared.Clock.the-variants.{Nowhere}
 use Rattle.pascal.specs.declared.TextField.{TextField}
@@ -41,7 +41,7 @@ every f [] = true
 every f (x ∷ xs) = f x && every f xs
 
 -- all that the rows name are editions
-abbrev named : {A : Type 0} → List (Row A) → Bool
+abbrev named : {A : Type 0} → List (Entry A) → Bool
 named rs = every (λ r. every (among editions) (r .editions)) rs
 
 module _ (e : ℕ) (n : among editions e ≡ false) where
@@ -51,7 +51,7 @@ module _ (e : ℕ) (n : among editions e ≡ false) where
       let p = and-eq-true-iff (among editions x) (every (among editions) xs) .0 k in
       rw (ne-eqb e x λ q. false≢true (sym n ∙ ap (among editions) q ∙ p .0)) (not-among xs (p .1))
 
-  look-other : {A : Type 0} (other : A) (rs : List (Row A)) → named rs ≡ true → look other rs e ≡ other
+  look-other : {A : Type 0} (other : A) (rs : List (Entry A)) → named rs ≡ true → look other rs e ≡ other
   look-other other [] k = refl
   look-other other (r ∷ rs) k =
       let p = and-eq-true-iff (every (among editions) (r .editions)) (named rs) .0 k in
@@ -66,7 +66,7 @@ by-edition P e f g = go (among editions e) refl
     go true n = f n
     go false n = g n
 
-look-edition : {A : Type 0} (other : A) (rs : List (Row A)) → named rs ≡ true → (e : ℕ) → look other rs e ≡ look other rs (editionOf e)
+look-edition : {A : Type 0} (other : A) (rs : List (Entry A)) → named rs ≡ true → (e : ℕ) → look other rs e ≡ look other rs (editionOf e)
 unfolding editions
 look-edition other rs k e =
     by-edition (λ x. look other rs e ≡ look other rs x) e (λ n. refl) (λ n. look-other e n other rs k ∙ sym (look-other 0 refl other rs k))
@@ -81,7 +81,7 @@ unfolding layoutOf minima clocks offsets multipliers texts editions
 layout-edition e =
     rw (again e, look-edition 0 minima refl e, look-edition Nowhere clocks refl e, look-edition 0 offsets refl e, look-edition 0 multipliers refl e, starts texts refl)
   where
-    starts : (ts : List (List (Row TextField))) → every named ts ≡ true → map (λ t. startAt (look Absent t e)) ts ≡ map (λ t. startAt (look Absent t (editionOf e))) ts
+    starts : (ts : List (List (Entry TextField))) → every named ts ≡ true → map (λ t. startAt (look Absent t e)) ts ≡ map (λ t. startAt (look Absent t (editionOf e))) ts
     starts [] k = refl
     starts (t ∷ ts) k =
         let p = and-eq-true-iff (named t) (every named ts) .0 k in
@@ -137,10 +137,10 @@ pub field-lies : (k e : ℕ) → reach (fieldOf k e) ≤ look 0 minima e
 field-lies k e = by-bool (leb 8 k) (λ t. rw (field-none k e (leb-true 8 k t)) (omega arith)) (λ t. lies-within k e (leb-false 8 k t))
 
 -- a stored double lies within its edition's minimum, and byte 0, which stands for none, within the smallest
-abbrev pub lies : List (Row ℕ) → ℕ → Bool
+abbrev pub lies : List (Entry ℕ) → ℕ → Bool
 lies rs e = leb (look 0 rs e + 8) 512 || leb (look 0 rs e + 8) (look 0 minima e)
 
-pub double-lies : (rs : List (Row ℕ)) → named rs ≡ true → map (lies rs) (0 ∷ editions) ≡ map (λ _. true) (0 ∷ editions) → (e n : ℕ) → 512 ≤ n → look 0 minima e ≤ n → look 0 rs e + 8 ≤ n
+pub double-lies : (rs : List (Entry ℕ)) → named rs ≡ true → map (lies rs) (0 ∷ editions) ≡ map (λ _. true) (0 ∷ editions) → (e n : ℕ) → 512 ≤ n → look 0 minima e ≤ n → look 0 rs e + 8 ≤ n
 unfolding minima editions
 double-lies rs k l e n h m =
     let same = look-edition 0 rs k e in

@@ -15,18 +15,18 @@ unfoldable pub bitsText : Bits → List ℕ
 bitsText Nan = 110 ∷ 97 ∷ 110 ∷ []
 bitsText (Pattern n) = digits 16 16 n
 
-abbrev pub double : Float → ℕ → List ℕ
-double x sep = field (bitsText (bitsOf x)) sep
+abbrev pub doubleText : Float → ℕ → List ℕ
+doubleText x sep = field (bitsText (bitsOf x)) sep
 
 -- 'r: time, axis or `-`, unscaled, scaled'
 abbrev pub timeText : Float → List ℕ
-timeText t = 114 ∷ 32 ∷ double t 32
+timeText t = 114 ∷ 32 ∷ doubleText t 32
 
 abbrev pub valuesText : Float → Float → List ℕ
-valuesText u s = double u 32 ++ double s 10
+valuesText u s = doubleText u 32 ++ doubleText s 10
 
 abbrev pub pointLine : Float → Float → Float → Float → List ℕ
-pointLine t x u s = timeText t ++ (double x 32 ++ valuesText u s)
+pointLine t x u s = timeText t ++ (doubleText x 32 ++ valuesText u s)
 
 unfoldable pub recordLine : Record → List ℕ
 recordLine (Trace t u s) = timeText t ++ (field (45 ∷ []) 32 ++ valuesText u s)

@@ -3,16 +3,18 @@ use error::Stopped;
 use floats::Bits;
 use streams::Record;
 ghost use Prim.Native.Nat.{_+_, _≤_};
+ghost use mathlib.Core.Path.{_≡_};
 ghost use mathlib.Core.List.{[], _∷_};
 ghost use lib.ListN.{length};
 ghost use Rattle.error.specs.Number.{stopOf};
 ghost use Rattle.digits.specs.Put.{Put};
-ghost use Rattle.lines.specs.Lines.{double, timeText, valuesText, pointLine, recordLine, headerLine, answerText, endLine};
+ghost use Rattle.lines.specs.Left.{behindText, moreText, scanText, leftLine, tooLongLine};
+ghost use Rattle.lines.specs.Lines.{doubleText, timeText, valuesText, pointLine, recordLine, headerLine, answerText, endLine};
 
 // A double's bits, or nan, and what ends the field.
 pub fn put_double(out: &mut [u8], at: usize, x: f64, sep: u8) -> usize
     requires { ⌜ at + 17 ≤ length (now out) ⌝ }
-    ensures { λ r. ⌜ Put (double x sep) at (now (out .entry)) r (now (out .exit)) ⌝ }
+    ensures { λ r. ⌜ Put (doubleText x sep) at (now (out .entry)) r (now (out .exit)) ⌝ }
     ensures { λ r. ⌜ r ≤ at + 17 ⌝ }
 {
     match floats::f64_to_bits(x) {
@@ -119,7 +121,7 @@ fn put_answer(out: &mut [u8], at: usize, z: Stopped) -> usize
 {
     match z {
         Stopped::Finished => digits::put_number(out, at, 0, b' '),
-        Stopped::Refused(c) => digits::put_number(out, at, error::number(c) as u64, b' '),
+        Stopped::Refused(c) => digits::put_number(out, at, error::number_of(c) as u64, b' '),
         Stopped::MoreBytes => put_letter(out, at, b'm'),
     }
 }
@@ -133,4 +135,77 @@ pub fn put_end(out: &mut [u8], at: usize, z: Stopped, count: usize) -> usize
     let a = put_letter(out, at, b'e');
     let b = put_answer(out, a, z);
     digits::put_number(out, b, count as u64, b'\n')
+}
+
+// ---- what is told on standard error
+
+// A text.
+fn put_text(out: &mut [u8], at: usize, text: &[u8]) -> usize
+    requires { ⌜ at + length (now text) ≤ length (now out) ⌝ }
+    ensures { λ r. ⌜ Put (now (text .entry)) at (now (out .entry)) r (now (out .exit)) ⌝ }
+    ensures { λ r. ⌜ r ≡ at + length (now (text .entry)) ⌝ }
+{
+    let mut a = at;
+    let mut i: usize = 0;
+    while i < text.len() {
+        a = digits::put_byte(out, a, text[i]);
+        i += 1;
+    }
+    a
+}
+
+// So many bytes stand in the buffer behind the end of the run.
+fn put_behind(out: &mut [u8], at: usize, behind: usize) -> usize
+    requires { ⌜ at + 67 ≤ length (now out) ⌝ }
+    ensures { λ r. ⌜ Put (behindText behind) at (now (out .entry)) r (now (out .exit)) ⌝ }
+    ensures { λ r. ⌜ r ≤ at + 67 ⌝ }
+{
+    let a = digits::put_number(out, at, behind as u64, b' ');
+    put_text(out, a, b"bytes in the buffer behind the end of the run\n")
+}
+
+// What follows the bytes of the last scan.
+fn put_more(out: &mut [u8], at: usize, behind: usize) -> usize
+    requires { ⌜ at + 69 ≤ length (now out) ⌝ }
+    ensures { λ r. ⌜ Put (moreText behind) at (now (out .entry)) r (now (out .exit)) ⌝ }
+    ensures { λ r. ⌜ r ≤ at + 69 ⌝ }
+{
+    if behind == 0 {
+        return digits::put_byte(out, at, b'\n');
+    }
+    let a = put_text(out, at, b", ");
+    put_behind(out, a, behind)
+}
+
+// The bytes left of the last scan, and those behind it.
+fn put_scan(out: &mut [u8], at: usize, scan: usize, behind: usize) -> usize
+    requires { ⌜ at + 112 ≤ length (now out) ⌝ }
+    ensures { λ r. ⌜ Put (scanText scan behind) at (now (out .entry)) r (now (out .exit)) ⌝ }
+    ensures { λ r. ⌜ r ≤ at + 112 ⌝ }
+{
+    if scan == 0 {
+        return put_behind(out, at, behind);
+    }
+    let a = digits::put_number(out, at, scan as u64, b' ');
+    let b = put_text(out, a, b"bytes of the last scan");
+    put_more(out, b, behind)
+}
+
+// The line that tells what is left where a run closes with 0.
+pub fn put_left(out: &mut [u8], at: usize, scan: usize, behind: usize) -> usize
+    requires { ⌜ at + 128 ≤ length (now out) ⌝ }
+    ensures { λ r. ⌜ Put (leftLine scan behind) at (now (out .entry)) r (now (out .exit)) ⌝ }
+    ensures { λ r. ⌜ r ≤ at + 128 ⌝ }
+{
+    let a = put_text(out, at, b"chemlog: left: ");
+    put_scan(out, a, scan, behind)
+}
+
+// The line that tells that the input was too long.
+pub fn put_too_long(out: &mut [u8], at: usize) -> usize
+    requires { ⌜ at + 128 ≤ length (now out) ⌝ }
+    ensures { λ r. ⌜ Put tooLongLine at (now (out .entry)) r (now (out .exit)) ⌝ }
+    ensures { λ r. ⌜ r ≤ at + 128 ⌝ }
+{
+    put_text(out, at, b"chemlog: the log is too long\n")
 }

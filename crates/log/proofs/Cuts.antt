@@ -1,14 +1,17 @@
--- However the input is cut into parts, the log is that of the whole file.
+-- However the bytes come in, a rule reads what it reads through the buffer; and the log is one.
 use mathlib.Core.Path.{_≡_, refl, sym, ap, ap₂, _∙_, subst, subst₂}
 use mathlib.Core.Bool.{Bool, true, false, false≢true}
 use mathlib.Core.List.{List, [], _∷_, _++_, append-assoc, append-nil}
-use Prim.Native.Nat.{ℕ, _+_}
-use native.Mathlib.Nat.{add-zero, add-assoc, zero-add}
-use lib.ListN.{length, take, drop, length-append}
-use lib.Seq.{drop-append-le}
+use Prim.Native.Nat.{ℕ, _+_, _-_, _≤_, _<_}
+use native.Mathlib.Omega.{arith}
+use borrow.Author.Tests.{ltb-true, ltb-false, lt-ltb, le-ltb}
+use borrow.Table.Steps.{cases as by}
+use lib.Dec.{ltb}
+use lib.ListN.{length, take, drop, take-append-drop, length-append, length-drop}
+use lib.Seq.{take-append-add, take-append-seam, length-take-le}
 use Rattle.rules.specs.Rule.{Rule, gives, field, refuses, ends, Stop, moreBytes, Read, got, stops, lacks, read}
 use Rattle.rules.specs.Calls.{Item}
-use Rattle.rules.proofs.Laws.{got≢stops, by-fit, read-fits, read-past, taking-stops, waits-iff, taken-within, Keeps, keeps}
+use Rattle.rules.proofs.Laws.{got≢stops, by-fit, read-fits, read-past, taking-stops, waits-iff, Keeps, keeps}
 use Rattle.rules.proofs.Last.{told-last}
 use Rattle.metadata.specs.Metadata.{Header, openRule}
 use Rattle.chemstation.specs.Next.{rule}
@@ -16,36 +19,10 @@ use Rattle.streams.specs.declared.State.{State}
 use Rattle.streams.specs.declared.Record.{Record}
 use Rattle.opening.specs.Opening.{begins}
 use Rattle.lines.specs.Lines.{recordLine, endLine}
-use Rattle.log.specs.Runs.{linesOf, Ran, none, more}
-use Rattle.log.specs.Parts.{RestOf, record-line, end-line, headerText, LogOf, refused-run, opened-run, AnyCut}
-use Rattle.log.specs.Parts.{Reached, opens, logs, comes, ends as told-end, Came, all, some, Closes, unopened, opened}
-use Rattle.log.proofs.Logs.{lines-append}
+use Rattle.log.specs.Log.{inBuffer, RestOf, record-line, end-line, headerText, LogOf, refused-run, opened-run, OneLog}
 use Rattle.log.proofs.Exists.{there}
 
 -- ---- one reading
-
--- the bytes that have not come: none, where the end was told
-abbrev Behind : Bool → List ℕ → Type 0
-Behind true G = G ≡ []
-Behind false G = Unit {0}
-
-came : {last : Bool} {A F : List ℕ} → Came last A F → (G : List ℕ) × (Behind last G) × (F ≡ A ++ G)
-came {A = A} all = ([], refl, sym (append-nil A))
-came (some G) = (G, tt, refl)
-
--- an answer but 'more bytes' is that on all the bytes, told last
-whole : {A : Type 0} (last : Bool) (r : Rule A) (bs G : List ℕ) (x : Read A) → Behind last G → read last r bs ≡ x → ¬ (x ≡ stops moreBytes) → read true r (bs ++ G) ≡ x
-whole true r bs G x b e d = rw (b, append-nil bs) e
-whole {A} false r bs G x b e d =
-    let kept = kept-as x (subst (λ y. Keeps bs y (read false r (bs ++ G))) e (keeps r bs G)) d in
-    told-last r (bs ++ G) .agrees (λ p. d (sym kept ∙ waits-iff r (bs ++ G) .1 p)) ∙ kept
-  where
-    kept-as : (x : Read A) → Keeps bs x (read false r (bs ++ G)) → ¬ (x ≡ stops moreBytes) → read false r (bs ++ G) ≡ x
-    kept-as (got a n) k d = k .1
-    kept-as (stops z) k d = k (λ q. d (ap stops q))
-
-whole-got : {A : Type 0} (last : Bool) (r : Rule A) (bs G : List ℕ) {a : A} {n : ℕ} → Behind last G → read last r bs ≡ got a n → (read true r (bs ++ G) ≡ got a n) × (drop n (bs ++ G) ≡ drop n bs ++ G)
-whole-got last r bs G {a} {n} b e = (whole last r bs G (got a n) b e (λ q. got≢stops q), drop-append-le n bs G (taken-within last r bs e))
 
 lacks-told : (may : Bool) (bs : List ℕ) → ¬ (lacks true may bs ≡ moreBytes)
 lacks-told true [] e = false≢true cc
@@ -66,141 +43,132 @@ never-waits (field may w k) bs e = go (never-waits (k (take w bs)) (drop w bs))
         (λ h. ih (taking-stops w (read true (k (take w bs)) (drop w bs)) moreBytes .0 (sym (read-fits true may w k bs h) ∙ e)))
         (λ h. lacks-told may bs (let q : stops (lacks true may bs) ≡ stops moreBytes = sym (read-past true may w k bs h) ∙ e in cc))
 
--- ---- records in a row
+-- an answer but 'more bytes' stays, whatever comes behind
+kept : {A : Type 0} (r : Rule A) (bs G : List ℕ) (x : Read A) → read false r bs ≡ x → ¬ (x ≡ stops moreBytes) → read false r (bs ++ G) ≡ x
+kept {A} r bs G x e d = go x (subst (λ y. Keeps bs y (read false r (bs ++ G))) e (keeps r bs G)) d
+  where
+    go : (x : Read A) → Keeps bs x (read false r (bs ++ G)) → ¬ (x ≡ stops moreBytes) → read false r (bs ++ G) ≡ x
+    go (got a n) k d = k .1
+    go (stops z) k d = k (λ q. d (ap stops q))
 
-ran-join : {last : Bool} {st cur end : State} {bs left rest : List ℕ} {rs ss : List Record} → Ran last st bs rs cur left → Ran last cur left ss end rest → Ran last st bs (rs ++ ss) end rest
-ran-join {last} {st} {cur} {bs = bs} {left = left} {rs = rs} p none = subst (λ l. Ran last st bs l cur left) (sym (append-nil rs)) p
-ran-join {last} {st} {bs = bs} {rs = rs} p (more {rs = ss} {left = m} {x = x} {n = n} q e) =
-    subst (λ l. Ran last st bs l (x .after) (drop n m)) (append-assoc rs ss (x .shows ∷ [])) (more (ran-join p q) e)
+kept-last : {A : Type 0} (r : Rule A) (bs G : List ℕ) (x : Read A) → read false r bs ≡ x → ¬ (x ≡ stops moreBytes) → read true r (bs ++ G) ≡ x
+kept-last r bs G x e d = let k = kept r bs G x e d in told-last r (bs ++ G) .agrees (λ p. d (sym k ∙ waits-iff r (bs ++ G) .1 p)) ∙ k
 
-ran-whole : {last : Bool} {st cur : State} {bs left : List ℕ} {rs : List Record} (G : List ℕ) → Behind last G → Ran last st bs rs cur left → Ran true st (bs ++ G) rs cur (left ++ G)
-ran-whole G b none = none
-ran-whole {last} {st} {bs = bs} G b (more {rs = rs} {cur = cur} {left = left} {x = x} {n = n} q e) =
-    let w = whole-got last (rule cur) left G b e in
-    subst (Ran true st (bs ++ G) (rs ++ (x .shows ∷ [])) (x .after)) (w .1) (more (ran-whole G b q) (w .0))
+-- the bytes at hand, bs, and those that have not come, G: none, where the end was told, and then the buffer was not full
+pub record Behind (last : Bool) (size : ℕ) (bs G : List ℕ) : Type 0 where
+  pub held : length bs ≤ size
+  pub told : last ≡ true → (G ≡ []) × (length bs < size)
 
--- one more record: its line, and the count
-one-more : (rs : List Record) (r : Record) (t : List ℕ) → linesOf rs ++ (recordLine r ++ t) ≡ linesOf (rs ++ (r ∷ [])) ++ t
-unfolding linesOf
-one-more rs r t = rw (lines-append rs (r ∷ []), append-nil) (sym (append-assoc (linesOf rs) (recordLine r) t))
+-- an answer but 'more bytes' on the bytes at hand is that through the buffer
+pub in-buffer : {A : Type 0} (last : Bool) (size : ℕ) (r : Rule A) (bs G : List ℕ) (x : Read A) → Behind last size bs G → read last r bs ≡ x → ¬ (x ≡ stops moreBytes) → inBuffer size r (bs ++ G) ≡ x
+in-buffer true size r bs G x b e d = let t = b .told refl in rw (t .0, append-nil bs, lt-ltb (length bs) size (t .1)) e
+in-buffer false size r bs G x b e d =
+    by (ltb (length (bs ++ G)) size)
+    (λ t. rw t (kept-last r bs G x e d))
+    (λ t. rw (t, window) (kept r bs (take (size - length bs) G) x e d))
+  where
+    window : take size (bs ++ G) ≡ bs ++ take (size - length bs) G
+    window = let k : size ≡ length bs + (size - length bs) = omega (arith, b .held) in ap (λ n. take n (bs ++ G)) k ∙ take-append-add bs G (size - length bs)
 
-tally : (c : ℕ) (rs : List Record) (r : Record) → c + length (rs ++ (r ∷ [])) ≡ c + length rs + 1
-tally c rs r = rw (length-append rs (r ∷ [])) (sym (add-assoc c (length rs) 1))
+-- a full buffer that still waits
+pub full-waits : {A : Type 0} (size : ℕ) (r : Rule A) (bs G : List ℕ) → length bs ≡ size → read false r bs ≡ stops moreBytes → inBuffer size r (bs ++ G) ≡ stops moreBytes
+full-waits size r bs G h e =
+    let t : ltb (length (bs ++ G)) size ≡ false = le-ltb (length (bs ++ G)) size (omega (arith, length-append bs G)) in
+    let w : take size (bs ++ G) ≡ bs = ap (λ n. take n (bs ++ G)) (sym h) ∙ take-append-seam bs G in
+    rw (t, w) e
 
--- the log behind them
-rest-before : {st cur : State} {bs left t : List ℕ} {rs : List Record} (c : ℕ) → Ran true st bs rs cur left → RestOf cur left (c + length rs) t → RestOf st bs c (linesOf rs ++ t)
-unfolding linesOf
-rest-before {st} {bs = bs} {t = t} c none r = subst (λ n. RestOf st bs n t) (add-zero c) r
-rest-before {st} {bs = bs} {t = t} c (more {rs = rs} {left = left} {x = x} {n = n} q e) r =
-    subst (RestOf st bs c) (one-more rs (x .shows) t) (rest-before c q (record-line e (subst (λ m. RestOf (x .after) (drop n left) m t) (tally c rs (x .shows)) r)))
+-- ---- a larger buffer
+
+larger-reads : {A : Type 0} (size more : ℕ) (r : Rule A) (bs : List ℕ) (x : Read A) → size ≤ more → inBuffer size r bs ≡ x → ¬ (x ≡ stops moreBytes) → inBuffer more r bs ≡ x
+larger-reads size more r bs x h e d =
+    by (ltb (length bs) size)
+    (λ t. rw (lt-ltb (length bs) more (omega (arith, ltb-true (length bs) size t))) (rw t at e))
+    (λ t.
+    let n = length-take-le size bs (ltb-false (length bs) size t) in
+    subst (λ l. inBuffer more r l ≡ x) (take-append-drop size bs)
+    (in-buffer false more r (take size bs) (drop size bs) x (record { held = omega arith; told = λ q. absurd (false≢true q) }) (rw t at e) d))
+
+rest-larger : {size : ℕ} (more : ℕ) {st : State} {bs : List ℕ} {c : ℕ} {z : Stop} {t : List ℕ} → size ≤ more → ¬ (z ≡ moreBytes) → RestOf size st bs c z t → RestOf more st bs c z t
+rest-larger {size} more {st} {bs} h d (record-line {x = x} {n = n} e r) = record-line (larger-reads size more (rule st) bs (got x n) h e (λ q. got≢stops q)) (rest-larger more h d r)
+rest-larger {size} more {st} {bs} h d (end-line {z = z} e) = end-line (larger-reads size more (rule st) bs (stops z) h e (λ q. d cc))
+
+larger : (size more kind : ℕ) (F : List ℕ) (z : Stop) (t : List ℕ) → size ≤ more → LogOf size kind F z t → ¬ (z ≡ moreBytes) → LogOf more kind F z t
+larger size more kind F z t h (refused-run e) d = refused-run (larger-reads size more (openRule kind) F (stops z) h e (λ q. d cc))
+larger size more kind F z t h (opened-run {h = i} {n = n} e r) d = opened-run (larger-reads size more (openRule kind) F (got i n) h e (λ q. got≢stops q)) (rest-larger more h d r)
+
+-- ---- one log only
 
 -- a log where the rule gives a record begins with its line
-rest-step : {cur : State} {left : List ℕ} {c : ℕ} {u : List ℕ} (x : Item State Record) (n : ℕ) → RestOf cur left c u → read true (rule cur) left ≡ got x n →
-    (v : List ℕ) × (u ≡ recordLine (x .shows) ++ v) × RestOf (x .after) (drop n left) (c + 1) v
-rest-step {cur} {left} {c} x n (record-line {x = y} {n = m} {t = v} e r) f =
+pub rest-step : {size : ℕ} {cur : State} {left : List ℕ} {c : ℕ} {z : Stop} {u : List ℕ} (x : Item State Record) (n : ℕ) → RestOf size cur left c z u → inBuffer size (rule cur) left ≡ got x n →
+    (v : List ℕ) × (u ≡ recordLine (x .shows) ++ v) × RestOf size (x .after) (drop n left) (c + 1) z v
+rest-step {size} {cur} {left} {c} {z} x n (record-line {x = y} {n = m} {t = v} e r) f =
     let same : y ≡ x = cc in
     let many : m ≡ n = cc in
-    (v, ap (λ (w : Item State Record). recordLine (w .shows) ++ v) same, subst₂ (λ (w : Item State Record) k. RestOf (w .after) (drop k left) (c + 1) v) same many r)
+    (v, ap (λ (w : Item State Record). recordLine (w .shows) ++ v) same, subst₂ (λ (w : Item State Record) k. RestOf size (w .after) (drop k left) (c + 1) z v) same many r)
 rest-step x n (end-line e) f = absurd (got≢stops (sym f ∙ e))
 
-rest-after : {st cur : State} {bs left u : List ℕ} {rs : List Record} (c : ℕ) → Ran true st bs rs cur left → RestOf st bs c u → (v : List ℕ) × (u ≡ linesOf rs ++ v) × RestOf cur left (c + length rs) v
-unfolding linesOf
-rest-after {st} {bs = bs} {u = u} c none r = (u, refl, subst (λ n. RestOf st bs n u) (sym (add-zero c)) r)
-rest-after c (more {rs = rs} {left = left} {x = x} {n = n} q e) r =
-    let i = rest-after c q r in
-    let s = rest-step x n (i .2) e in
-    (s .0, i .1 ∙ ap (λ t. linesOf rs ++ t) (s .1) ∙ one-more rs (x .shows) (s .0), subst (λ m. RestOf (x .after) (drop n left) m (s .0)) (sym (tally c rs (x .shows))) (s .2))
+-- where it stops, the log is its closing line
+pub rest-stop : {size : ℕ} {cur : State} {left : List ℕ} {c : ℕ} {z : Stop} {u : List ℕ} (y : Stop) → RestOf size cur left c z u → inBuffer size (rule cur) left ≡ stops y → u ≡ endLine y c
+rest-stop y (record-line e r) f = absurd (got≢stops (sym e ∙ f))
+rest-stop {c = c} y (end-line {z = z} e) f = let same : z ≡ y = cc in ap (λ w. endLine w c) same
 
-rest-one : {st : State} {bs : List ℕ} {c : ℕ} {t u : List ℕ} → RestOf st bs c t → RestOf st bs c u → t ≡ u
+rest-one : {size : ℕ} {st : State} {bs : List ℕ} {c : ℕ} {y z : Stop} {t u : List ℕ} → RestOf size st bs c y t → RestOf size st bs c z u → t ≡ u
 rest-one (record-line {x = x} {n = n} e r) s = let p = rest-step x n s e in ap (λ l. recordLine (x .shows) ++ l) (rest-one r (p .2)) ∙ sym (p .1)
-rest-one {c = c} (end-line {z = z} e) (end-line {z = y} f) = let same : z ≡ y = cc in ap (λ w. endLine w c) same
-rest-one (end-line e) (record-line f r) = absurd (got≢stops (sym f ∙ e))
+rest-one (end-line {z = z} e) s = sym (rest-stop z s e)
 
--- ---- a run in parts
+-- a log where the opening gives a header begins with its line
+pub log-step : {size kind : ℕ} {F : List ℕ} {z : Stop} {u : List ℕ} (h : Header) (n : ℕ) → LogOf size kind F z u → inBuffer size (openRule kind) F ≡ got h n →
+    (v : List ℕ) × (u ≡ headerText h ++ v) × RestOf size (begins kind h) (drop n F) 0 z v
+log-step h n (refused-run e) f = absurd (got≢stops (sym f ∙ e))
+log-step {size} {kind} {F} {z} h n (opened-run {h = i} {n = m} {t = v} e r) f =
+    let same : i ≡ h = cc in
+    let many : m ≡ n = cc in
+    (v, ap (λ x. headerText x ++ v) same, subst₂ (λ x k. RestOf size (begins kind x) (drop k F) 0 z v) same many r)
 
--- the file F read at once: the records that the run has passed, and what is left behind them
-record Straight (kind : ℕ) (F t : List ℕ) (count : ℕ) (st : State) (bs : List ℕ) : Type 0 where
-  header : Header
-  size : ℕ
-  records : List Record
-  opened : read true (openRule kind) F ≡ got header size
-  ran : Ran true (begins kind header) (drop size F) records st bs
-  text : t ≡ headerText header ++ linesOf records
-  counted : count ≡ length records
+pub log-stop : {size kind : ℕ} {F : List ℕ} {z : Stop} {u : List ℕ} (y : Stop) → LogOf size kind F z u → inBuffer size (openRule kind) F ≡ stops y → u ≡ endLine y 0
+log-stop y (opened-run e r) f = absurd (got≢stops (sym e ∙ f))
+log-stop y (refused-run {z = z} e) f = let same : z ≡ y = cc in ap (λ w. endLine w 0) same
 
-straight : {kind : ℕ} {last : Bool} {A t : List ℕ} {count : ℕ} {st : State} {bs : List ℕ} (G : List ℕ) → Behind last G → Reached kind last A t count st bs → Straight kind (A ++ G) t count st (bs ++ G)
-unfolding linesOf
-straight {kind} {last} {A} G b (opens {h = h} {n = n} e) =
-    let w = whole-got last (openRule kind) A G b e in
-    record {
-      header = h;
-      size = n;
-      records = [];
-      opened = w .0;
-      ran = subst (Ran true (begins kind h) (drop n (A ++ G)) [] (begins kind h)) (w .1) none;
-      text = sym (append-nil (headerText h));
-      counted = refl;
-    }
-straight G b (logs {rs = rs} r ran) =
-    let s = straight G b r in
-    record {
-      header = s .header;
-      size = s .size;
-      records = s .records ++ rs;
-      opened = s .opened;
-      ran = ran-join (s .ran) (ran-whole G b ran);
-      text =
-          ap (λ l. l ++ linesOf rs) (s .text)
-          ∙ append-assoc (headerText (s .header)) (linesOf (s .records)) (linesOf rs)
-          ∙ ap (λ l. headerText (s .header) ++ l) (sym (lines-append (s .records) rs));
-      counted = ap (λ n. n + length rs) (s .counted) ∙ sym (length-append (s .records) rs);
-    }
-straight {kind} {st = st} G b (comes {F = F} {t = t} {count = count} {bs = bs} m r) =
-    subst₂ (λ x y. Straight kind x t count st y) (sym (append-assoc F m G)) (sym (append-assoc bs m G)) (straight (m ++ G) tt r)
-straight G b (told-end r) = straight G tt r
+pub one : (size kind : ℕ) (F : List ℕ) (y z : Stop) (t u : List ℕ) → LogOf size kind F y t → LogOf size kind F z u → t ≡ u
+one size kind F y z t u (refused-run e) s = sym (log-stop y s e)
+one size kind F y z t u (opened-run {h = h} {n = n} e r) s = let p = log-step h n s e in ap (λ l. headerText h ++ l) (rest-one r (p .2)) ∙ sym (p .1)
 
--- ---- the theorem
+-- ---- up to `e m`
 
-same : (kind : ℕ) (last : Bool) (A F bs t : List ℕ) (z : Stop) (count : ℕ) → Closes kind last A bs t z count → Came last A F → ¬ (z ≡ moreBytes) → LogOf kind F (t ++ endLine z count)
-same kind last A F bs t z count (unopened e) c d =
-    let g = came c in
-    refused-run {z = z} (rw (g .2) (whole last (openRule kind) A (g .0) (stops z) (g .1) e λ q. d (cc)))
-same kind last A F bs t z count (opened {st = st} r e) c d =
-    let g = came c in
-    let s = straight (g .0) (g .1) r in
-    let stop = whole last (rule st) bs (g .0) (stops z) (g .1) e λ q. d (cc) in
-    let tally : length (s .records) ≡ 0 + length (s .records) = sym (zero-add (length (s .records))) in
-    let rest = rest-before 0 (s .ran) (subst (λ n. RestOf st (bs ++ g .0) n (endLine z (length (s .records)))) tally (end-line stop)) in
-    let line = ap₂ (λ l n. l ++ endLine z n) (s .text) (s .counted) ∙ append-assoc (headerText (s .header)) (linesOf (s .records)) (endLine z (length (s .records))) in
-    subst₂ (LogOf kind) (sym (g .2)) (sym line) (opened-run (s .opened) rest)
+abbrev Begun : List ℕ → List ℕ → Type 0
+Begun t u = (v : List ℕ) × (count : ℕ) × (w : List ℕ) × (t ≡ v ++ endLine moreBytes count) × (u ≡ v ++ w)
 
-begins-with : {kind : ℕ} {F t : List ℕ} {count : ℕ} {st : State} {bs : List ℕ} (s : Straight kind F t count st bs) (h : Header) (w v : List ℕ) → h ≡ s .header → w ≡ linesOf (s .records) ++ v → headerText h ++ w ≡ t ++ v
-begins-with s h w v e f = ap₂ (λ x l. headerText x ++ l) e f ∙ sym (append-assoc (headerText (s .header)) (linesOf (s .records)) v) ∙ ap (λ l. l ++ v) (sym (s .text))
+begun-behind : (l : List ℕ) {t u t′ u′ : List ℕ} → t′ ≡ l ++ t → u′ ≡ l ++ u → Begun t u → Begun t′ u′
+begun-behind l e f b =
+    (l ++ b .0, b .1, b .2, e ∙ ap (λ x. l ++ x) (b .3) ∙ sym (append-assoc l (b .0) (endLine moreBytes (b .1))), f ∙ ap (λ x. l ++ x) (b .4) ∙ sym (append-assoc l (b .0) (b .2)))
 
-log-begins : {kind : ℕ} {F t : List ℕ} {count : ℕ} {st : State} {bs u : List ℕ} → Straight kind F t count st bs → LogOf kind F u → (v : List ℕ) × (u ≡ t ++ v)
-log-begins s (refused-run f) = absurd (got≢stops (sym (s .opened) ∙ f))
-log-begins {kind} {F} s (opened-run {h = h} {n = n} {t = w} f rest) =
-    let this : h ≡ s .header = cc (s .opened) in
-    let size : n ≡ s .size = cc (s .opened) in
-    let p = rest-after 0 (s .ran) (subst₂ (λ x k. RestOf (begins kind x) (drop k F) 0 w) this size rest) in
-    (p .0, begins-with s h w (p .0) this (p .1))
+rest-begins : {size more : ℕ} {st : State} {bs : List ℕ} {c : ℕ} {y z : Stop} {t u : List ℕ} → size ≤ more → z ≡ moreBytes → RestOf size st bs c z t → RestOf more st bs c y u → Begun t u
+rest-begins {size} {more} {st} {bs} h m (record-line {x = x} {n = n} e r) s =
+    let p = rest-step x n s (larger-reads size more (rule st) bs (got x n) h e (λ q. got≢stops q)) in
+    begun-behind (recordLine (x .shows)) refl (p .1) (rest-begins h m r (p .2))
+rest-begins {c = c} {u = u} h m (end-line {z = z} e) s = ([], c, u, ap (λ w. endLine w c) m, refl)
 
-begins-so : (kind : ℕ) (last : Bool) (A F bs t : List ℕ) (z : Stop) (count : ℕ) → Closes kind last A bs t z count → Came last A F → (u : List ℕ) → LogOf kind F u → (v : List ℕ) × (u ≡ t ++ v)
-begins-so kind last A F bs t z count (unopened e) c u l = (u, refl)
-begins-so kind last A F bs t z count (opened r e) c u l = let g = came c in log-begins (straight (g .0) (g .1) r) (subst (λ f. LogOf kind f u) (g .2) l)
+log-begins : {size more kind : ℕ} {F : List ℕ} {y z : Stop} {t u : List ℕ} → size ≤ more → z ≡ moreBytes → LogOf size kind F z t → LogOf more kind F y u → Begun t u
+log-begins {u = u} h m (refused-run e) s = ([], 0, u, ap (λ w. endLine w 0) m, refl)
+log-begins {size} {more} {kind} {F} h m (opened-run {h = i} {n = n} e r) s =
+    let p = log-step i n s (larger-reads size more (openRule kind) F (got i n) h e (λ q. got≢stops q)) in
+    begun-behind (headerText i) refl (p .1) (rest-begins h m r (p .2))
 
-no-wait : (kind : ℕ) (A bs t : List ℕ) (z : Stop) (count : ℕ) → Closes kind true A bs t z count → ¬ (z ≡ moreBytes)
-no-wait kind A bs t z count (unopened e) q = never-waits (openRule kind) A (e ∙ ap stops q)
-no-wait kind A bs t z count (opened {st = st} r e) q = never-waits (rule st) bs (e ∙ ap stops q)
+begins-so : (size more kind : ℕ) (F : List ℕ) (y : Stop) (t u : List ℕ) → size ≤ more → LogOf size kind F moreBytes t → LogOf more kind F y u → Begun t u
+begins-so size more kind F y t u h l s = log-begins h refl l s
 
-one : (kind : ℕ) (F t u : List ℕ) → LogOf kind F t → LogOf kind F u → t ≡ u
-one kind F t u (refused-run {z = z} e) (refused-run {z = y} f) = let q : z ≡ y = cc in ap (λ w. endLine w 0) q
-one kind F t u (refused-run e) (opened-run f r) = absurd (got≢stops (sym f ∙ e))
-one kind F t u (opened-run e r) (refused-run f) = absurd (got≢stops (sym e ∙ f))
-one kind F t u (opened-run {h = h} {n = n} {t = v} e r) (opened-run {h = i} {n = m} {t = w} f s) =
-    let this : i ≡ h = cc in
-    let size : m ≡ n = cc in
-    ap₂ (λ x l. headerText x ++ l) (sym this) (rest-one r (subst₂ (λ x k. RestOf (begins kind x) (drop k F) 0 w) this size s))
+-- ---- all at hand
 
-pub any-cut : AnyCut
-any-cut = record { same = same; begins-so = begins-so; no-wait = no-wait; there = there; one = one }
+no-wait-reads : {A : Type 0} (size : ℕ) (r : Rule A) (bs : List ℕ) → length bs < size → ¬ (inBuffer size r bs ≡ stops moreBytes)
+no-wait-reads size r bs h e = never-waits r bs (rw (lt-ltb (length bs) size h) at e)
+
+rest-no-wait : {size : ℕ} {st : State} {bs : List ℕ} {c : ℕ} {z : Stop} {t : List ℕ} → length bs < size → RestOf size st bs c z t → ¬ (z ≡ moreBytes)
+rest-no-wait {bs = bs} h (record-line {n = n} e r) q = rest-no-wait (omega (arith, length-drop n bs)) r q
+rest-no-wait {size} {st} {bs} h (end-line e) q = no-wait-reads size (rule st) bs h (e ∙ ap stops q)
+
+no-wait : (size kind : ℕ) (F : List ℕ) (z : Stop) (t : List ℕ) → length F < size → LogOf size kind F z t → ¬ (z ≡ moreBytes)
+no-wait size kind F z t h (refused-run e) q = no-wait-reads size (openRule kind) F h (e ∙ ap stops q)
+no-wait size kind F z t h (opened-run {n = n} e r) q = rest-no-wait (omega (arith, length-drop n F)) r q
+
+pub one-log : OneLog
+one-log = record { there = there; one = one; larger = larger; begins-so = begins-so; no-wait = no-wait }

@@ -1,4 +1,4 @@
-mod Logs
+pub mod Logs
 mod Moves
 mod Exists
 pub mod Cuts

@@ -1,4 +1,4 @@
-// The loop that reads records and puts their lines, and the theorem that a log is the same however its input is cut.
+// The loop that reads records and puts their lines, and the theorem that a file has one log.
 use reader::Closing;
 use streams::Next;
 use streams::State;
@@ -6,8 +6,8 @@ ghost use Prim.Native.Nat.{_-_, _≤_};
 ghost use mathlib.Core.Path.{_≡_};
 ghost use mathlib.Core.List.{_++_};
 ghost use lib.ListN.{length, take, drop};
-ghost use Rattle.log.specs.Runs.{LoggedBy};
-ghost use Rattle.log.specs.Parts.{AnyCut};
+ghost use Rattle.log.specs.Runs.{logged, LoggedBy};
+ghost use Rattle.log.specs.Log.{OneLog};
 
 // How far a part of the bytes was logged.
 pub struct Logged {
@@ -32,7 +32,7 @@ pub fn log_records(
     at: usize,
 ) -> Logged
     requires { ⌜ (from ≤ length (now src)) × (at ≤ length (now out)) ⌝ }
-    ensures { λ r. ⌜ LoggedBy last st (now (src .entry)) from (now (out .entry)) at r (now (out .exit)) ⌝ }
+    ensures { λ r. ⌜ LoggedBy (logged (length (now (out .entry)) - at) last st (drop from (now (src .entry)))) from (now (out .entry)) at r (now (out .exit)) ⌝ }
 {
     let mut cur = st;
     let mut f = from;
@@ -80,7 +80,7 @@ pub fn compact(buf: &mut [u8], from: usize, to: usize) -> usize
     n
 }
 
-// Nothing to compute: the contract is the theorem that the log is the same however the input is cut into parts.
-pub fn any_cut()
-    ensures { λ _. ⌜ AnyCut ⌝ }
+// Nothing to compute: the contract is the theorem that every file has one log, and what the buffer's size is to it.
+pub fn one_log()
+    ensures { λ _. ⌜ OneLog ⌝ }
 {}

@@ -50,13 +50,13 @@ module _ (e : ℕ) (h : List ℕ) where
     }
 
   -- all texts are found: two columns hold their starts and lengths
-  pub record Columns (starts lengths : List ℕ) : Type 0 where
+  pub record AllFound (starts lengths : List ℕ) : Type 0 where
     pub places : List Place
     pub given : textsRule e h texts ≡ gives places
     pub first : starts ≡ startsOf places
     pub second : lengths ≡ lengthsOf places
 
-  pub all : (k : ℕ) → 8 ≤ k → (a b : List ℕ) → Gathered k a b → Columns a b
+  pub all : (k : ℕ) → 8 ≤ k → (a b : List ℕ) → Gathered k a b → AllFound a b
   unfolding textsRule texts
   all k l a b g =
       let end : k ≡ 8 = omega (arith, g .room) in

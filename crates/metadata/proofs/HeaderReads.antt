@@ -18,9 +18,9 @@ use Rattle.floats.specs.declared.ScanCount.the-variants.{TooMany, Count}
 use Rattle.trim.specs.declared.Trimmed.{Trimmed}
 use Rattle.trim.specs.declared.Trimmed.the-variants.{NotUtf8, At}
 use Rattle.agilent.specs.Header.{known, headerRule}
-use Rattle.layouts.specs.Table.{Row, look, minima, texts, fieldOf}
+use Rattle.layouts.specs.Table.{Entry, look, minima, texts, fieldOf}
 use Rattle.pascal.specs.Texts.{Place, trimmedFrom, pascal, textRule, reach}
-use Rattle.metadata.specs.Metadata.{startsOf, lengthsOf, textsRule, describedBy, metadataRule, counted, quotientOf, arrayScans, scansRule, Header, openRule, headerRead, Opens}
+use Rattle.metadata.specs.Metadata.{startsOf, lengthsOf, textsRule, describedBy, metadataRule, countRule, quotientOf, arrayScans, scansRule, Header, openRule, headerRead, Opens}
 use Rattle.pascal.specs.declared.TextField.{TextField}
 use Rattle.pascal.specs.declared.TextField.the-variants.{Absent, Pascal, PascalToEnd, Utf16}
 use Rattle.metadata.specs.declared.ChemstationMetadata.{ChemstationMetadata}
@@ -39,7 +39,7 @@ module _ (h : List ℕ) (P : TextField → Place → Type 0) (text : (f : TextFi
   abbrev placeIn : List Place → ℕ → Place
   placeIn ps k = record { start = getD (startsOf ps) k 0; bytes = getD (lengthsOf ps) k 0 }
 
-  each-text : (e : ℕ) (ts : List (List (Row TextField))) → ((k : ℕ) → k < length ts → reach (look Absent (getD ts k []) e) ≤ length h)
+  each-text : (e : ℕ) (ts : List (List (Entry TextField))) → ((k : ℕ) → k < length ts → reach (look Absent (getD ts k []) e) ≤ length h)
       → Orderly false (λ ps. (k : ℕ) → P (look Absent (getD ts k []) e) (placeIn ps k)) (textsRule e h ts)
   unfolding textsRule
   each-text e [] m = giving λ k. nothing
@@ -69,7 +69,7 @@ any-text h (Utf16 start) = giving tt
 
 -- ---- the rule of Open
 
-count : {Q : Type 0} → Q → (x : ScanCount) → Orderly true (λ _. Q) (counted x)
+count : {Q : Type 0} → Q → (x : ScanCount) → Orderly true (λ _. Q) (countRule x)
 count q TooMany = refusing
 count q (Count n) = giving q
 

@@ -17,12 +17,12 @@ use Rattle.floats.specs.declared.ScanCount.{ScanCount}
 use Rattle.agilent.specs.Header.{headerRule}
 use Rattle.agilent.proofs.Checks.{passes, fails}
 use Rattle.layouts.specs.Table.{look, minima, texts}
-use Rattle.metadata.specs.Metadata.{startsOf, lengthsOf, textsRule, describedBy, metadataRule, stepOf, quotientOf, counted, arrayScans, Header, openRule, Opens}
-use Rattle.metadata.specs.Remaining.{afterDescription, afterMinimum, afterBytes, OpensWhole}
+use Rattle.metadata.specs.Metadata.{startsOf, lengthsOf, textsRule, describedBy, metadataRule, stepOf, quotientOf, countRule, arrayScans, Header, afterDescription, afterBytes, openRule, Opens}
+use Rattle.metadata.specs.Remaining.{afterMinimum, OpensWhole}
 use Rattle.metadata.specs.declared.ChemstationMetadata.{ChemstationMetadata}
 use Rattle.metadata.specs.declared.Opened.the-variants as opened
 use Rattle.metadata.specs.declared.OpenedHeader.{OpenedHeader}
-use Rattle.metadata.proofs.Gathers.{Columns}
+use Rattle.metadata.proofs.Gathers.{AllFound}
 
 -- ---- answers of a whole header h, where x is left of the rule
 
@@ -42,12 +42,12 @@ module _ (h : List ℕ) {x : Rule Header} where
 module _ (d : ChemstationMetadata) (h : List ℕ) where
   pub array-small : length h < 4126 → afterDescription 6 h d ≡ refuses 9
   unfolding arrayScans _>>=_
-  array-small l = ap (λ r. r >>= λ n. gives (record { bytes = h; says = d; scans = n; step = stepOf h })) (fails 9 (counted (scanCountOf (quotientOf d h))) (lt-leb 4126 _ l))
+  array-small l = ap (λ r. r >>= λ n. gives (record { bytes = h; says = d; scans = n; step = stepOf h })) (fails 9 (countRule (scanCountOf (quotientOf d h))) (lt-leb 4126 _ l))
 
   pub array-counted : 4126 ≤ length h → {step : Float} → step ≡ stepOf h → {x : ScanCount} → x ≡ scanCountOf (div binary64 (sub binary64 (d .«end_time») (d .«start_time»)) step) →
-      afterDescription 6 h d ≡ (counted x >>= λ n. gives (record { bytes = h; says = d; scans = n; step = step }))
+      afterDescription 6 h d ≡ (countRule x >>= λ n. gives (record { bytes = h; says = d; scans = n; step = step }))
   unfolding arrayScans quotientOf
-  array-counted l s q = rw (passes 9 (counted (scanCountOf (quotientOf d h))) (le-leb 4126 _ l), q, s) refl
+  array-counted l s q = rw (passes 9 (countRule (scanCountOf (quotientOf d h))) (le-leb 4126 _ l), q, s) refl
 
 -- of a header h of edition e
 module _ (kind : ℕ) (h : List ℕ) (e : ℕ) where
@@ -55,7 +55,7 @@ module _ (kind : ℕ) (h : List ℕ) (e : ℕ) where
   unfolding _>>=_
   texts-refuse q = rw q refl
 
-  pub texts-found : {starts lengths : List ℕ} → Columns e h starts lengths → afterMinimum kind e h ≡ afterDescription kind h (describedBy e h starts lengths)
+  pub texts-found : {starts lengths : List ℕ} → AllFound e h starts lengths → afterMinimum kind e h ≡ afterDescription kind h (describedBy e h starts lengths)
   unfolding _>>=_
   texts-found f = rw (f .given, f .first, f .second) refl
 

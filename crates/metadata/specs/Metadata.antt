@@ -6,13 +6,13 @@ use Prim.Native.Nat.{ℕ}
 use lib.Dec.{leb, ltb, eqb}
 use lib.ListN.{length, take, replicate}
 use lib.Ieee.{Float, binary32, binary64, sub, div, ofInt, ofBits}
-use Rattle.rules.specs.Rule.{Rule, gives, refuses, _>>=_, _>>_, Read, got, stops}
+use Rattle.rules.specs.Rule.{Rule, gives, refuses, _>>=_, _>>_, mapRule, Read, got, stops}
 use Rattle.error.specs.Number.{stopOf}
 use Rattle.common.specs.Bytes.{be, signed, part}
 use Rattle.floats.specs.Doubles.{double, minutes, scanCountOf}
 use Rattle.floats.specs.declared.ScanCount.{ScanCount}
 use Rattle.floats.specs.declared.ScanCount.the-variants.{TooMany, Count}
-use Rattle.layouts.specs.Table.{Row, look, minima, texts, offsets, multipliers, clocks}
+use Rattle.layouts.specs.Table.{Entry, look, minima, texts, offsets, multipliers, clocks}
 use Rattle.agilent.specs.Header.{check, headerRule}
 use Rattle.pascal.specs.Texts.{Place, textRule}
 use Rattle.pascal.specs.declared.TextField.{TextField}
@@ -33,7 +33,7 @@ abbrev pub lengthsOf : List Place → List ℕ
 lengthsOf ps = map (λ p. p .bytes) ps
 
 -- 'each text in the order listed below'
-unfoldable pub textsRule : ℕ → List ℕ → List (List (Row TextField)) → Rule (List Place)
+unfoldable pub textsRule : ℕ → List ℕ → List (List (Entry TextField)) → Rule (List Place)
 textsRule e h [] = gives []
 textsRule e h (t ∷ ts) = do
   p ← textRule (look Absent t e) h
@@ -69,13 +69,16 @@ describedBy e h starts lengths = record {
   «text_lengths» = lengths;
 }
 
+-- 'Then each text in the order listed below': what a header h of edition e says that passed the checks before the texts
+abbrev pub describedRule : ℕ → List ℕ → Rule ChemstationMetadata
+describedRule e h = mapRule (λ ps. describedBy e h (startsOf ps) (lengthsOf ps)) (textsRule e h texts)
+
 -- '5: edition unknown. 6: size below the edition's minimum. Then each text ..'; 'Edition: u32 at 248'
 unfoldable pub metadataRule : List ℕ → Rule ChemstationMetadata
 metadataRule h = do
   check (ltb 0 (look 0 minima (be (part 248 4 h)))) 5
   check (leb (look 0 minima (be (part 248 4 h))) (length h)) 6
-  ps ← textsRule (be (part 248 4 h)) h texts
-  gives (describedBy (be (part 248 4 h)) h (startsOf ps) (lengthsOf ps))
+  describedRule (be (part 248 4 h)) h
 
 -- ---- kind 6
 
@@ -88,40 +91,47 @@ unfoldable pub quotientOf : ChemstationMetadata → List ℕ → Float
 quotientOf d h = div binary64 (sub binary64 (d .«end_time») (d .«start_time»)) (stepOf h)
 
 -- '10, scan quotient 2^53 or more'
-abbrev pub counted : ScanCount → Rule ℕ
-counted TooMany = refuses 10
-counted (Count n) = gives n
+abbrev pub countRule : ScanCount → Rule ℕ
+countRule TooMany = refuses 10
+countRule (Count n) = gives n
 
 -- 'Kind 6 then: 9, size below 4,126; 10, ..': the scans of an array
 unfoldable pub arrayScans : ChemstationMetadata → List ℕ → Rule ℕ
 arrayScans d h = do
   check (leb 4126 (length h)) 9
-  counted (scanCountOf (quotientOf d h))
+  countRule (scanCountOf (quotientOf d h))
 
 -- ---- Open, as far as the header goes
 
--- the header's bytes, what it says, the scans due, and the minutes a record of an array
+-- the header's bytes, what it says, the scans due (0 where the kind has none), and the minutes a record of an array
 pub record Header : Type 0 where
   pub bytes : List ℕ
   pub says : ChemstationMetadata
   pub scans : ℕ
   pub step : Float
 
--- 'Scans due (MS, DAD, UV): u32 at 278'; FID and MWD have no use for it
+-- 'Scans due (MS, DAD, UV): u32 at 278'; FID and MWD have none
+abbrev pub scansAt : ℕ → List ℕ → ℕ
+scansAt kind h = cond (eqb kind 1) 0 (cond (eqb kind 3) 0 (be (part 278 4 h)))
+
 abbrev pub scansRule : ℕ → ChemstationMetadata → List ℕ → Rule ℕ
-scansRule kind d h = cond (eqb kind 6) (arrayScans d h) (gives (be (part 278 4 h)))
+scansRule kind d h = cond (eqb kind 6) (arrayScans d h) (gives (scansAt kind h))
 
 -- only an array's header has one: 0 for the other kinds
 abbrev pub stepBy : ℕ → List ℕ → Float
 stepBy kind h = cond (eqb kind 6) (stepOf h) (double 0)
 
--- 'All of the above, in that order. 5: .. Kind 6 then: ..'
+-- 'Kind 6 then: ..': what is left of the rule where a header h says d
+abbrev pub afterDescription : ℕ → List ℕ → ChemstationMetadata → Rule Header
+afterDescription kind h d = mapRule (λ n. record { bytes = h; says = d; scans = n; step = stepBy kind h }) (scansRule kind d h)
+
+-- '5: .. Kind 6 then: ..': what is left of it where the header's bytes h are there
+abbrev pub afterBytes : ℕ → List ℕ → Rule Header
+afterBytes kind h = metadataRule h >>= afterDescription kind h
+
+-- 'All of the above, in that order. 5: ..'
 unfoldable pub openRule : ℕ → Rule Header
-openRule kind = do
-  h ← headerRule kind
-  d ← metadataRule h
-  n ← scansRule kind d h
-  gives (record { bytes = h; says = d; scans = n; step = stepBy kind h })
+openRule kind = headerRule kind >>= afterBytes kind
 
 -- the description of a header that was refused: all zero
 unfoldable pub blank : ChemstationMetadata

@@ -27,8 +27,8 @@ ghost use Rattle.rules.specs.Rule.{stops, read};
 ghost use Rattle.error.specs.Number.{stopOf};
 ghost use Rattle.pascal.specs.Texts.{textRule, placeRule};
 ghost use Rattle.layouts.specs.Table.{look, minima, fieldOf};
-ghost use Rattle.metadata.specs.Metadata.{timeAt, doubleAt, describedBy, blank, stepOf, openRule, Opens};
-ghost use Rattle.metadata.specs.Remaining.{afterDescription, afterMinimum, afterBytes, OpensWhole};
+ghost use Rattle.metadata.specs.Metadata.{timeAt, doubleAt, describedBy, blank, stepOf, scansAt, afterDescription, afterBytes, openRule, Opens};
+ghost use Rattle.metadata.specs.Remaining.{afterMinimum, OpensWhole};
 
 pub struct ChemstationMetadata {
     pub edition: u32,
@@ -48,7 +48,7 @@ pub struct ChemstationMetadata {
 
 // What Open answers of a header.
 pub enum Opened {
-    // the size in bytes, the scans due, and an array's minutes a record (0.0 for the other kinds)
+    // the size in bytes, the scans due (0 for FID and MWD), and an array's minutes a record (0.0 for the other kinds)
     Header {
         size: usize,
         scans: usize,
@@ -172,6 +172,20 @@ fn open_array(d: ChemstationMetadata, h: &[u8]) -> OpenedHeader
     }
 }
 
+// The scans due that the header of a kind but array says: FID and MWD have none.
+fn scans_at(kind: u8, h: &[u8]) -> usize
+    requires { ⌜ 512 ≤ length (now h) ⌝ }
+    ensures { λ r. ⌜ r ≡ scansAt kind (now (h .entry)) ⌝ }
+{
+    if kind == 1 {
+        return 0;
+    }
+    if kind == 3 {
+        return 0;
+    }
+    be_u32(h, 278) as usize
+}
+
 // Opens a header h that says d.
 fn open_described(kind: u8, d: ChemstationMetadata, h: &[u8]) -> OpenedHeader
     requires { ⌜ 512 ≤ length (now h) ⌝ }
@@ -183,7 +197,7 @@ fn open_described(kind: u8, d: ChemstationMetadata, h: &[u8]) -> OpenedHeader
     OpenedHeader {
         answer: Opened::Header {
             size: h.len(),
-            scans: be_u32(h, 278) as usize,
+            scans: scans_at(kind, h),
             time_step: 0.0,
         },
         metadata: d,

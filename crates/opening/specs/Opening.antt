@@ -5,7 +5,7 @@ use mathlib.Core.List.{List, [], _∷_}
 use Prim.Native.Nat.{ℕ}
 use lib.Dec.{eqb}
 use lib.Ieee.{Float, binary64, sub, div}
-use Rattle.rules.specs.Rule.{Rule, mapRule, Read, got, stops, mapRead}
+use Rattle.rules.specs.Rule.{Rule, mapRule, Read, got, stops, read}
 use Rattle.error.specs.Number.{stopOf}
 use Rattle.common.specs.Bytes.{part}
 use Rattle.metadata.specs.Metadata.{Header, openRule, blank}
@@ -111,6 +111,10 @@ begins kind x =
 abbrev pub startRule : ℕ → Rule State
 startRule kind = mapRule (begins kind) (openRule kind)
 
+-- the same fields, for what the header says
+abbrev pub saysRule : ℕ → Rule ChemstationMetadata
+saysRule kind = mapRule (λ h. h .says) (openRule kind)
+
 -- what an answer says: the state and the header's size, or why there is none
 abbrev pub startRead : Opening → Read State
 startRead (Run st n) = got st n
@@ -125,8 +129,8 @@ abbrev pub NoDescription : ChemstationMetadata → Opening → Type 0
 NoDescription d (Run st n) = Unit
 NoDescription d (Stopped z) = d ≡ blank
 
--- an answer r, by what the rule reads
-pub record OpensRun (kind : ℕ) (x : Read Header) (r : OpenedRun) : Type 0 where
-  pub state : startRead (r .answer) ≡ mapRead (begins kind) x
-  pub says : saysRead (r .metadata) (r .answer) ≡ mapRead (λ h. h .says) x
+-- an answer r to the bytes s, told whether they are the last
+pub record OpensRun (kind : ℕ) (last : Bool) (s : List ℕ) (r : OpenedRun) : Type 0 where
+  pub state : startRead (r .answer) ≡ read last (startRule kind) s
+  pub says : saysRead (r .metadata) (r .answer) ≡ read last (saysRule kind) s
   pub empty : NoDescription (r .metadata) (r .answer)

@@ -17,9 +17,7 @@ use streams::State;
 ghost use mathlib.Core.Path.{_≡_};
 ghost use Prim.Native.Nat.{_+_, _≤_};
 ghost use lib.ListN.{length};
-ghost use Rattle.rules.specs.Rule.{read};
 ghost use Rattle.common.specs.Bytes.{part};
-ghost use Rattle.metadata.specs.Metadata.{openRule};
 ghost use Rattle.opening.specs.Opening.{sameBytes, recordType, fidBegins, msBegins, mwdBegins, dadBegins, uvBegins, arrayBegins, begins, OpensRun};
 
 // What Open answers.
@@ -39,7 +37,7 @@ pub struct OpenedRun {
 const CHEMSTATION_TIME_STEP: f64 = 0.2;
 
 // Whether the bytes of a mark stand at a position.
-fn marked(h: &[u8], at: usize, mark: &[u8]) -> bool
+fn has_mark(h: &[u8], at: usize, mark: &[u8]) -> bool
     requires { ⌜ at + length (now mark) ≤ length (now h) ⌝ }
     ensures { λ r. ⌜ r ≡ sameBytes (part at (length (now (mark .entry))) (now (h .entry))) (now (mark .entry)) ⌝ }
 {
@@ -57,10 +55,10 @@ fn record_type(h: &[u8]) -> ChemstationArrayRecordType
     requires { ⌜ 4126 ≤ length (now h) ⌝ }
     ensures { λ r. ⌜ r ≡ recordType (now (h .entry)) ⌝ }
 {
-    if marked(h, 348, b"G\x00C\x00") {
+    if has_mark(h, 348, b"G\x00C\x00") {
         return ChemstationArrayRecordType::Float64Array;
     }
-    if marked(h, 3090, b"M\x00u\x00s\x00t\x00a\x00n\x00g\x00") {
+    if has_mark(h, 3090, b"M\x00u\x00s\x00t\x00a\x00n\x00g\x00") {
         return ChemstationArrayRecordType::Float64Array;
     }
     ChemstationArrayRecordType::Float32Array
@@ -175,7 +173,7 @@ fn first_state(kind: u8, h: &[u8], d: ChemstationMetadata, scans: Scans, step: f
 
 // Opens a run: its header, what it says, and the state before the first record.
 pub fn open_run(kind: u8, s: &[u8], last: bool) -> OpenedRun
-    ensures { λ r. ⌜ OpensRun kind (read last (openRule kind) (now (s .entry))) r ⌝ }
+    ensures { λ r. ⌜ OpensRun kind last (now (s .entry)) r ⌝ }
 {
     let o = open_header(kind, s, last);
     let metadata = o.metadata;

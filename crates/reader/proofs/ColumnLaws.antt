@@ -16,7 +16,7 @@ use Rattle.rules.proofs.Filling.{Filled, filled-start, filled-more, filled-stop
 use Rattle.chemstation.specs.Next.{rule}
 use Rattle.streams.specs.declared.State.{State}
 use Rattle.streams.specs.declared.Record.{Record}
-use Rattle.reader.specs.Columns.{rowOf, Columns, columns, equalLengths, filledWith, columnsWith, closingOf, FilledBy}
+use Rattle.reader.specs.Columns.{rowOf, Columns, columns, equalLengths, Even, filledWith, columnsWith, closingOf, FilledBy}
 use Rattle.reader.specs.declared.Row.{Row}
 use Rattle.reader.specs.declared.Closing.{Closing}
 use Rattle.reader.specs.declared.Filled.{Filled as Answer}
@@ -33,12 +33,6 @@ filled-set f (x ∷ xs) r (y ∷ ys) h = ap (λ l. f (rowOf x) ∷ l) (filled-se
 
 -- ---- four columns of one length
 
-pub record Even (n : ℕ) (c : Columns) : Type 0 where
-  pub time : length (c .time) ≡ n
-  pub axis : length (c .axis) ≡ n
-  pub unscaled : length (c .unscaled) ≡ n
-  pub scaled : length (c .scaled) ≡ n
-
 pub even-if : (c : Columns) → equalLengths c ≡ true → Even (length (c .time)) c
 even-if c e =
     let n = length (c .time) in
@@ -46,7 +40,7 @@ even-if c e =
     let q = and-yes (eqb (length (c .unscaled)) n) (eqb (length (c .scaled)) n) (p .1) in
     record { time = refl; axis = eqb→eq (length (c .axis)) n (p .0); unscaled = eqb→eq (length (c .unscaled)) n (q .0); scaled = eqb→eq (length (c .scaled)) n (q .1) }
 
-even-filled : (n : ℕ) (rows : List Record) (old : Columns) → length rows ≤ n → Even n old → Even n (columnsWith rows old)
+pub even-filled : (n : ℕ) (rows : List Record) (old : Columns) → length rows ≤ n → Even n old → Even n (columnsWith rows old)
 even-filled n rows old h e = record {
   time = length-filled (λ r. r .time) rows (old .time) (omega (arith, e .time)) ∙ e .time;
   axis = length-filled (λ r. r .axis) rows (old .axis) (omega (arith, e .axis)) ∙ e .axis;
@@ -55,10 +49,10 @@ even-filled n rows old h e = record {
 }
 
 -- a row put at a place of all four
-abbrev putRow : Columns → ℕ → Row → Columns
+abbrev pub putRow : Columns → ℕ → Row → Columns
 putRow c i r = columns (set (c .time) i (r .time)) (set (c .axis) i (r .axis)) (set (c .unscaled) i (r .unscaled)) (set (c .scaled) i (r .scaled))
 
-put-next : (n : ℕ) (rows : List Record) (r : Record) (old : Columns) → length rows < n → Even n old → putRow (columnsWith rows old) (length rows) (rowOf r) ≡ columnsWith (rows ++ (r ∷ [])) old
+pub put-next : (n : ℕ) (rows : List Record) (r : Record) (old : Columns) → length rows < n → Even n old → putRow (columnsWith rows old) (length rows) (rowOf r) ≡ columnsWith (rows ++ (r ∷ [])) old
 put-next n rows r old h e = λ j. record {
   time = filled-set (λ r. r .time) rows r (old .time) (omega (arith, e .time)) j;
   axis = filled-set (λ r. r .axis) rows r (old .axis) (omega (arith, e .axis)) j;

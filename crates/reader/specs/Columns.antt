@@ -53,6 +53,13 @@ allEqual t a u s = eqb a t && (eqb u t && eqb s t)
 abbrev pub equalLengths : Columns → Bool
 equalLengths c = allEqual (length (c .time)) (length (c .axis)) (length (c .unscaled)) (length (c .scaled))
 
+-- columns of one length, n
+pub record Even (n : ℕ) (c : Columns) : Type 0 where
+  pub time : length (c .time) ≡ n
+  pub axis : length (c .axis) ≡ n
+  pub unscaled : length (c .unscaled) ≡ n
+  pub scaled : length (c .scaled) ≡ n
+
 -- a column: a place for each record, and 'places from the count on keep what they held'
 abbrev pub filledWith : (Row → Float) → List Record → List Float → List Float
 filledWith f rs old = map (λ r. f (rowOf r)) rs ++ drop (length rs) old

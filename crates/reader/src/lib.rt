@@ -1,4 +1,4 @@
-// Fill columns, over all kinds.
+// Fill columns, over all kinds; and what it changes that bytes are told to be the last.
 use chemstation::next_record;
 use error::Refusal;
 use error::Stopped;
@@ -10,17 +10,18 @@ ghost use mathlib.Core.Bool.{true};
 ghost use Rattle.rules.specs.Rule.{refused};
 ghost use Rattle.rules.specs.Calls.{stopped, nothing};
 ghost use Rattle.reader.specs.Columns.{rowOf, Columns, columns, lentColumns, allEqual, equalLengths, FilledBy, Fills};
+ghost use Rattle.reader.specs.Last.{LastDiffers};
 
 // A record as a row of four columns; a kind without an axis has 0.0 there.
-struct Row {
-    time: f64,
-    axis: f64,
-    unscaled: f64,
-    scaled: f64,
+pub struct Row {
+    pub time: f64,
+    pub axis: f64,
+    pub unscaled: f64,
+    pub scaled: f64,
 }
 
 // The row of a record.
-fn row_of(r: Record) -> Row
+pub fn row_of(r: Record) -> Row
     ensures { λ row. ⌜ row ≡ rowOf r ⌝ }
 {
     match r {
@@ -86,7 +87,7 @@ fn unequal(st: State) -> Filled
 }
 
 // Whether four lengths are one.
-fn all_equal(time: usize, axis: usize, unscaled: usize, scaled: usize) -> bool
+pub fn all_equal(time: usize, axis: usize, unscaled: usize, scaled: usize) -> bool
     ensures { λ r. ⌜ r ≡ allEqual time axis unscaled scaled ⌝ }
 {
     if axis != time {
@@ -161,3 +162,9 @@ pub fn fill_columns(
     }
     fill_equal(st, s, last, time, axis, unscaled, scaled)
 }
+
+// Nothing is computed: told that the bytes are the last or not, Open, Next record and Fill columns differ only where a due
+// field ends past them. Cited by a contract, so that it cannot be left out.
+pub fn told_last()
+    ensures { λ _. ⌜ LastDiffers ⌝ }
+{}

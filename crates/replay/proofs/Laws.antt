@@ -7,14 +7,13 @@ use native.Mathlib.Omega.{arith}
 use lib.Dec.{leb}
 use lib.ListN.{length}
 use borrow.Author.Tests.{leb-true}
-use Rattle.rules.specs.Rule.{Read, got, stops, read, mapRead}
-use Rattle.rules.proofs.Laws.{got≢stops, taken-within}
-use Rattle.metadata.specs.Metadata.{Header, openRule}
+use Rattle.rules.specs.Rule.{Read, got, stops}
+use Rattle.rules.proofs.Laws.{taken-within}
 use Rattle.fetch.specs.Fetch.{wrote, refuse, fetched, outcomeOf, Fetches}
 use Rattle.fetch.specs.declared.Fetched.{Fetched}
 use Rattle.fetch.specs.declared.Fetched.the-variants.{Text}
 use Rattle.streams.specs.declared.State.{State}
-use Rattle.opening.specs.Opening.{begins, startRead, OpensRun}
+use Rattle.opening.specs.Opening.{startRule, startRead, OpensRun}
 use Rattle.opening.specs.declared.Opening.the-variants.{Run}
 use Rattle.opening.specs.declared.OpenedRun.{OpenedRun}
 
@@ -33,9 +32,5 @@ fetched-inside r n old new x f e = by x (ap outcomeOf (sym e) ∙ f .answer)
     by (got t k) q = told t (leb (length t) (length old)) refl q
     by (stops z) q = absurd (wrote≢refuse q)
 
-pub opened-inside : (kind : ℕ) (last : Bool) (s : List ℕ) (r : OpenedRun) (st : State) (n : ℕ) → OpensRun kind (read last (openRule kind) s) r → r .answer ≡ Run st n → n ≤ length s
-opened-inside kind last s r st n o e = by (read last (openRule kind) s) refl (ap startRead (sym e) ∙ o .state)
-  where
-    by : (x : Read Header) → read last (openRule kind) s ≡ x → got st n ≡ mapRead (begins kind) x → n ≤ length s
-    by (got h k) q p = let same : n ≡ k = cc in omega (arith, taken-within last (openRule kind) s q)
-    by (stops z) q p = absurd (got≢stops p)
+pub opened-inside : (kind : ℕ) (last : Bool) (s : List ℕ) (r : OpenedRun) (st : State) (n : ℕ) → OpensRun kind last s r → r .answer ≡ Run st n → n ≤ length s
+opened-inside kind last s r st n o e = taken-within last (startRule kind) s (sym (o .state) ∙ ap startRead e)

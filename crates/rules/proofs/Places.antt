@@ -7,7 +7,7 @@ use native.Mathlib.Nat.{add-zero}
 use native.Mathlib.Omega.{arith}
 use lib.ListN.{length, take, drop, length-drop}
 use lib.Seq.{drop-drop}
-use Rattle.rules.specs.Rule.{Rule, gives, field, refuses, ends, Stop, got, stops, taking, lacks, read, readAt, _>>=_, number, mayEnd}
+use Rattle.rules.specs.Rule.{Rule, gives, field, refuses, ends, Stop, got, stops, taking, lacks, read, readAt, _>>=_, bytesAs, mayEnd}
 use Rattle.rules.proofs.Laws.{by-fit, read-fits, read-past, taking-none, taking-twice}
 
 pub at-start : {A : Type 0} (last : Bool) (r : Rule A) (s : List ℕ) → readAt last r 0 s ≡ read last r s
@@ -25,7 +25,7 @@ at-field last may w k at s h =
     ∙ ap (λ bs. taking (at + w) (read last (k (take w (drop at s))) bs)) (drop-drop w at s)
 
 pub at-number : {A B : Type 0} (last : Bool) (w : ℕ) (g : List ℕ → A) (f : A → Rule B) (at : ℕ) (s : List ℕ) → at + w ≤ length s →
-    readAt last (number w g >>= f) at s ≡ readAt last (f (g (take w (drop at s)))) (at + w) s
+    readAt last (bytesAs w g >>= f) at s ≡ readAt last (f (g (take w (drop at s)))) (at + w) s
 unfolding _>>=_
 at-number last w g f at s h = at-field last false w (λ bs. f (g bs)) at s h
 
@@ -44,7 +44,7 @@ pub data AtLeast {A : Type 0} : ℕ → Rule A → Type 0 where
   none : {r : Rule A} → AtLeast 0 r
   more : {w n : ℕ} {k : List ℕ → Rule A} → ((bs : List ℕ) → AtLeast n (k bs)) → AtLeast (w + n) (field false w k)
 
-pub more-number : {A B : Type 0} (w n : ℕ) (g : List ℕ → A) (f : A → Rule B) → ((a : A) → AtLeast n (f a)) → AtLeast (w + n) (number w g >>= f)
+pub more-number : {A B : Type 0} (w n : ℕ) (g : List ℕ → A) (f : A → Rule B) → ((a : A) → AtLeast n (f a)) → AtLeast (w + n) (bytesAs w g >>= f)
 unfolding _>>=_
 more-number w n g f h = more λ bs. h (g bs)
 

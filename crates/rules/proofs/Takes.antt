@@ -5,7 +5,7 @@ use mathlib.Core.List.{List}
 use Prim.Native.Nat.{ℕ, _+_, _≤_, _<_}
 use native.Mathlib.Omega.{arith}
 use lib.ListN.{length, take, drop}
-use Rattle.rules.specs.Rule.{Rule, field, refuses, ends, Read, got, stops, taking, read, _>>=_, number, mayEnd, mapRule}
+use Rattle.rules.specs.Rule.{Rule, field, refuses, ends, Read, got, stops, taking, read, _>>=_, bytesAs, mayEnd, mapRule}
 use Rattle.rules.proofs.Laws.{got≢stops, by-fit, read-fits, read-past}
 
 pub data Takes {A : Type 0} : Rule A → Type 0 where
@@ -17,7 +17,7 @@ pub takes-cond : {A : Type 0} (b : Bool) {r s : Rule A} → Takes r → Takes s 
 takes-cond true p q = p
 takes-cond false p q = q
 
-pub takes-number : {A B : Type 0} (w : ℕ) (g : List ℕ → A) (f : A → Rule B) → 0 < w → Takes (number w g >>= f)
+pub takes-number : {A B : Type 0} (w : ℕ) (g : List ℕ → A) (f : A → Rule B) → 0 < w → Takes (bytesAs w g >>= f)
 unfolding _>>=_
 takes-number w g f h = first h
 

@@ -85,12 +85,12 @@ abbrev pub _>>_ : {A B : Type 0} → Rule A → Rule B → Rule B
 r >> s = r >>= λ _. s
 
 -- one field of w bytes, and what they mean
-abbrev pub number : {A : Type 0} → ℕ → (List ℕ → A) → Rule A
-number w meaning = field false w λ bs. gives (meaning bs)
+abbrev pub bytesAs : {A : Type 0} → ℕ → (List ℕ → A) → Rule A
+bytesAs w meaning = field false w λ bs. gives (meaning bs)
 
 -- w bytes passed over together
 abbrev pub skip : ℕ → Rule (Unit {0})
-skip w = number w λ _. tt
+skip w = bytesAs w λ _. tt
 
 -- FORMAT 2.2. FID and MWD: the file may end before the first field
 abbrev pub mayEnd : {A : Type 0} → Rule A → Rule A

@@ -50,7 +50,7 @@ fn white_space(c: u32) -> bool
 }
 
 // The scalar c ends at next.
-fn marked(m: Mark, c: u32, next: usize) -> Mark
+fn next_mark(m: Mark, c: u32, next: usize) -> Mark
     ensures { λ r. ⌜ r ≡ markOf m c next ⌝ }
 {
     if !white_space(c) {
@@ -81,7 +81,7 @@ pub fn trim_utf8(s: &[u8]) -> Trimmed
             }
             Front::Char(c, w) => {
                 at += w;
-                m = marked(m, c, at);
+                m = next_mark(m, c, at);
             }
         }
     }

@@ -13,7 +13,8 @@ use borrow.Author.Tests.{ltb-true, ltb-false}
 use borrow.Table.Steps.{cases as by}
 use Rattle.utf16.specs.declared.Piece.{Piece}
 use Rattle.utf8.specs.Utf8.{Scalar, Scalars, Utf8, encode, encodes, within}
-use Rattle.utf16.specs.Utf16.{Octets, units, isHigh, isLow, alone, pair, utf16, utf8Of, pieceOf, unitAt, First}
+use Rattle.common.specs.Bytes.{AreBytes}
+use Rattle.utf16.specs.Utf16.{units, isHigh, isLow, alone, pair, utf16, utf8Of, pieceOf, unitAt, First}
 use Rattle.utf8.proofs.Cases.{never, both, first, second, least, most, inside}
 use Rattle.written.proofs.Puts.{paste-next}
 
@@ -75,8 +76,8 @@ Small : List ℕ → Type 0
 Small [] = Unit
 Small (u ∷ us) = (u < 65536) × Small us
 
-small-units : (bs : List ℕ) → Octets bs → Small (units bs)
-unfolding Small
+small-units : (bs : List ℕ) → AreBytes bs → Small (units bs)
+unfolding Small AreBytes
 small-units [] o = tt
 small-units (a ∷ []) o = tt
 small-units (a ∷ b ∷ bs) o = (omega (arith, o .0, o .1 .0), small-units bs (o .1 .1))
@@ -92,7 +93,7 @@ scalars (u ∷ v ∷ us) s = go (isHigh u && isLow v) refl (scalars us (s .1 .1)
     go true t p q = (pair-scalar u v t, p)
     go false t p q = (alone-scalar u (s .0), q)
 
-pub recodes : (bs : List ℕ) → Octets bs → Utf8 (utf8Of bs) (utf16 (units bs))
+pub recodes : (bs : List ℕ) → AreBytes bs → Utf8 (utf8Of bs) (utf16 (units bs))
 unfolding utf8Of
 recodes bs o = record { scalars = scalars (units bs) (small-units bs o); bytes = refl }
 

@@ -7,10 +7,6 @@ use lib.ListN.{length, getD, drop}
 use Rattle.utf8.specs.Utf8.{within, encode, encodes}
 use Rattle.utf16.specs.declared.Piece.{Piece}
 
-abbrev pub Octets : List ℕ → Type 0
-Octets [] = Unit
-Octets (b ∷ bs) = (b < 256) × Octets bs
-
 -- An odd byte at the end is no unit. No caller passes one.
 abbrev pub units : List ℕ → List ℕ
 units [] = []

@@ -10,7 +10,8 @@ ghost use lib.ListN.{length, take, drop};
 ghost use lib.Seq.{paste};
 ghost use Rattle.utf8.specs.Utf8.{encode, six, Utf8};
 ghost use Rattle.written.specs.Written.{written, Puts};
-ghost use Rattle.utf16.specs.Utf16.{Octets, units, utf16, utf8Of, pieceOf, unitAt, First};
+ghost use Rattle.common.specs.Bytes.{AreBytes};
+ghost use Rattle.utf16.specs.Utf16.{units, utf16, utf8Of, pieceOf, unitAt, First};
 
 // A scalar, and how many bytes of UTF-16 it takes.
 struct Piece {
@@ -177,5 +178,5 @@ pub fn decode_utf16(src: &[u8], out: &mut [u8]) -> Written
 
 // What the definitions mean, in a contract so that it cannot be left out: UTF-16 becomes UTF-8.
 pub fn utf16_laws()
-    ensures recodes { λ _. ⌜ ((bs : List ℕ) → Octets bs → Utf8 (utf8Of bs) (utf16 (units bs))) ⌝ }
+    ensures recodes { λ _. ⌜ ((bs : List ℕ) → AreBytes bs → Utf8 (utf8Of bs) (utf16 (units bs))) ⌝ }
 {}

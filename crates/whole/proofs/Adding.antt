@@ -9,7 +9,7 @@ use Rattle.floats.specs.Wholes.{Sum, flat, doubles, wholes}
 use Rattle.floats.proofs.Running.{Running, running-start, running-step, Sloping, sloping-start}
 use Rattle.streams.specs.Changes.{Change, clears, adds, slopes, becomes, restarts, changed, after}
 use Rattle.floats.specs.Doubles.{double}
-use Rattle.whole.specs.Whole.{counted}
+use Rattle.whole.specs.Whole.{deltasAfter}
 
 -- ---- added up: MWD, DAD and UV; MS only sets
 
@@ -27,7 +27,7 @@ Fair (slopes v) = ⊥
 Fair (becomes z) = natAbs z ≤ 2 ^ 31
 Fair (restarts high low) = ⊥
 
-adds-on : (c : Change) (s : Sum Float) (w : Sum ℤ) (n : ℕ) → Fair c → Adds s w n → Adds (changed doubles s c) (changed wholes w c) (counted n c)
+adds-on : (c : Change) (s : Sum Float) (w : Sum ℤ) (n : ℕ) → Fair c → Adds s w n → Adds (changed doubles s c) (changed wholes w c) (deltasAfter n c)
 adds-on clears s w n f h = running-start (omega arith) refl
 adds-on (adds v) s w n f h = running-step v f h
 adds-on (slopes v) s w n f h = absurd f
@@ -42,9 +42,9 @@ pub all-fair : (cs : List Change) (c : Change) → AllFair cs → Fair c → All
 all-fair [] c a f = (f, tt)
 all-fair (b ∷ cs) c a f = (a .0, all-fair cs c (a .1) f)
 
-pub adds-all : (cs : List Change) (s : Sum Float) (w : Sum ℤ) (n : ℕ) → AllFair cs → Adds s w n → Adds (after doubles s cs) (after wholes w cs) (foldl counted n cs)
+pub adds-all : (cs : List Change) (s : Sum Float) (w : Sum ℤ) (n : ℕ) → AllFair cs → Adds s w n → Adds (after doubles s cs) (after wholes w cs) (foldl deltasAfter n cs)
 adds-all [] s w n f h = h
-adds-all (c ∷ cs) s w n f h = adds-all cs (changed doubles s c) (changed wholes w c) (counted n c) (f .1) (adds-on c s w n (f .0) h)
+adds-all (c ∷ cs) s w n f h = adds-all cs (changed doubles s c) (changed wholes w c) (deltasAfter n c) (f .1) (adds-on c s w n (f .0) h)
 
 -- ---- added up twice: FID
 

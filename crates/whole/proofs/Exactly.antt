@@ -1,5 +1,5 @@
 -- The reading in doubles and the reading in whole numbers, record by record: both read the same fields.
-use mathlib.Core.Path.{_≡_, refl, sym, ap, _∙_, subst}
+use mathlib.Core.Path.{_≡_, refl, sym, ap, _∙_}
 use mathlib.Core.Bool.{Bool, false}
 use mathlib.Core.List.{List, []}
 use Prim.Native.Nat.{ℕ, zero, suc, _≤_}
@@ -19,7 +19,8 @@ use Rattle.chemstation.specs.Next.{fields}
 use Rattle.streams.specs.Next.{sumOf}
 use Rattle.streams.specs.Next.{stepped}
 use Rattle.chemstation.specs.Next.{rule}
-use Rattle.whole.specs.Whole.{Whole, summed, wholeRule, atOpen, Begins, kindOf, Kind, Within, Exact, AllExact, ExactReadings}
+use Rattle.whole.specs.Whole.{Whole, summed, wholeRule, atOpen, Exact, AllExact}
+use Rattle.whole.specs.Readings.{Begins, ExactReadings}
 use Rattle.streams.specs.declared.State.{State}
 use Rattle.whole.proofs.Kept.{Holds, holds-exact, begins-holds, Keeps, keeps}
 
@@ -27,17 +28,18 @@ abbrev whole : State → Sum ℤ → ℕ → Whole
 whole st w n = record { state = st; sum = w; deltas = n }
 
 -- a record that is kept is exact
-kept-exact : {k : Kind} {s : Sum Float} {w : Sum ℤ} {n : ℕ} {t : Told} → Keeps k s w n t → Exact k ((stepped s t) .shows) ((summed w n t) .shows)
-kept-exact {k} {s} {w} {n} {t} p l =
+kept-exact : {s : Sum Float} {w : Sum ℤ} {n : ℕ} {t : Told} → Keeps s w n t → Exact ((stepped s t) .shows) ((summed w n t) .shows)
+kept-exact {s} {w} {n} {t} p l =
     let st = (stepped s t) .after in
     let y = (summed w n t) .after in
-    rw (p .shown l) (holds-exact st (y .sum) (y .deltas) (p .holds) (subst (λ k. Within k (y .deltas)) (sym (p .kind)) l))
+    let few = p .kind (y .deltas) l in
+    rw (p .shown few) (holds-exact st (y .sum) (y .deltas) (p .holds) few)
 
 module _ (last : Bool) where
   -- of the state in the second reading only the fields count
   abbrev Reading : ℕ → Type 0
   Reading m = (st st₀ : State) (w : Sum ℤ) (n : ℕ) (bs : List ℕ) → fields st ≡ fields st₀ → Holds st w n → AreBytes bs →
-      AllExact (kindOf st) ((readUpTo rule last m st bs) .records) ((readUpTo wholeRule last m (whole st₀ w n) bs) .records)
+      AllExact ((readUpTo rule last m st bs) .records) ((readUpTo wholeRule last m (whole st₀ w n) bs) .records)
 
   one-more : (m : ℕ) → Reading m → Reading (suc m)
   unfolding readUpTo
@@ -46,15 +48,14 @@ module _ (last : Bool) where
       read-map last (summed w n) (fields st₀) bs ∙ ap (λ r. mapRead (summed w n) (read last r bs)) (sym e) in
       rw (read-map last (stepped (sumOf st)) (fields st) bs, same) (go (read last (fields st) bs) (gets (keeps st w n h) last bs b))
     where
-      go : (x : Read Told) → Gets (Keeps (kindOf st) (sumOf st) w n) x →
-          AllExact (kindOf st) ((goOn st bs (readUpTo rule last m) (mapRead (stepped (sumOf st)) x)) .records) ((goOn (whole st₀ w n) bs (readUpTo wholeRule last m) (mapRead (summed w n) x)) .records)
+      go : (x : Read Told) → Gets (Keeps (sumOf st) w n) x →
+          AllExact ((goOn st bs (readUpTo rule last m) (mapRead (stepped (sumOf st)) x)) .records) ((goOn (whole st₀ w n) bs (readUpTo wholeRule last m) (mapRead (summed w n) x)) .records)
       go (stops z) p = tt
       go (got t c) p =
           let x = (stepped (sumOf st) t) .after in
           let y = (summed w n t) .after in (
             kept-exact p,
-            subst (λ k. AllExact k ((readUpTo rule last m x (drop c bs)) .records) ((readUpTo wholeRule last m y (drop c bs)) .records)) (p .kind)
-                (onward x (y .state) (y .sum) (y .deltas) (drop c bs) (p .same) (p .holds) (bytes-drop c bs b)),
+            onward x (y .state) (y .sum) (y .deltas) (drop c bs) (p .same) (p .holds) (bytes-drop c bs b),
           )
 
   all : (m : ℕ) → Reading m
@@ -66,19 +67,12 @@ exactly st h last n bs b = all last n st st (flat wholes (pos 0)) 0 bs refl (beg
 
 -- ---- for an opening
 
--- what an opening has to give
-pub record Opened (k : Kind) (st : State) : Type 0 where
-  pub kind : kindOf st ≡ k
-  pub begins : Begins st
-
 -- the records of any calls, and the added-up values by the rules
-pub exact-calls : {k : Kind} {start : Rule State} → Every (Opened k) start → (cs : List Call) (F : List ℕ) → 1 ≤ asked cs → AreBytes F →
-    AllExact k ((byCalls rule start cs F) .records) ((byRules wholeRule (mapRule atOpen start) (asked cs) F) .records)
-exact-calls {k} {start} o cs F h b = rw (demand rule start cs F [] h .by-rules, read-map false atOpen start F) (go (read false start F) (gets o false F b))
+pub exact-calls : {start : Rule State} → Every Begins start → (cs : List Call) (F : List ℕ) → 1 ≤ asked cs → AreBytes F →
+    AllExact ((byCalls rule start cs F) .records) ((byRules wholeRule (mapRule atOpen start) (asked cs) F) .records)
+exact-calls {start} o cs F h b = rw (demand rule start cs F [] h .by-rules, read-map false atOpen start F) (go (read false start F) (gets o false F b))
   where
-    go : (x : Read State) → Gets (Opened k) x →
-        AllExact k ((opening F (λ st bs. resultOf (readUpTo rule false (asked cs) st bs)) x) .records) ((opening F (λ st bs. resultOf (readUpTo wholeRule false (asked cs) st bs)) (mapRead atOpen x)) .records)
+    go : (x : Read State) → Gets Begins x →
+        AllExact ((opening F (λ st bs. resultOf (readUpTo rule false (asked cs) st bs)) x) .records) ((opening F (λ st bs. resultOf (readUpTo wholeRule false (asked cs) st bs)) (mapRead atOpen x)) .records)
     go (stops z) p = tt
-    go (got st c) p =
-        subst (λ k. AllExact k ((readUpTo rule false (asked cs) st (drop c F)) .records) ((readUpTo wholeRule false (asked cs) (atOpen st) (drop c F)) .records))
-        (p .kind) (exactly st (p .begins) false (asked cs) (drop c F) (bytes-drop c F b))
+    go (got st c) p = exactly st p false (asked cs) (drop c F) (bytes-drop c F b)

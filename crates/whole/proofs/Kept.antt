@@ -25,7 +25,8 @@ use Rattle.dad.specs.Dad.{dadPoint, dadBegun, dadScan, dadOnward, dadScanning, 
 use Rattle.uv.specs.Uv.{uvPoint, uvBegun, uvScan, uvLeft, uvScanning, uvRule}
 use Rattle.array.specs.Array.{arrayMade, stored, arrayRule}
 use Rattle.streams.specs.Next.{stepped}
-use Rattle.whole.specs.Whole.{counted, summed, dueOf, Begins, Kind, fid, ms, mwd, dad, uv, array, kindOf, Within, unscaledOf}
+use Rattle.whole.specs.Whole.{deltasAfter, summed, Within, unscaledOf}
+use Rattle.whole.specs.Readings.{dueOf, Begins}
 use Rattle.streams.specs.declared.ChemstationFidState.{ChemstationFidState}
 use Rattle.streams.specs.declared.ChemstationMsState.{ChemstationMsState}
 use Rattle.streams.specs.declared.ChemstationMwdState.{ChemstationMwdState}
@@ -52,7 +53,7 @@ Holds (Dad st) w n = Adds (sumOf (Dad st)) w n × (2 * n + dueOf (Dad st) ≤ 65
 Holds (Uv st) w n = Adds (sumOf (Uv st)) w n × (n + dueOf (Uv st) ≤ 65536)
 Holds (Array st) w n = Unit
 
-pub holds-exact : (st : State) (w : Sum ℤ) (n : ℕ) → Holds st w n → Within (kindOf st) n → IsWhole binary64 ((sumOf st) .value) (w .value)
+pub holds-exact : (st : State) (w : Sum ℤ) (n : ℕ) → Holds st w n → Within st n → IsWhole binary64 ((sumOf st) .value) (w .value)
 holds-exact (Fid st) w n h l = h .exact (sloping-within (2 ^ 47) n (omega arith) (omega arith))
 holds-exact (Ms st) w n h l = h .0 .exact (omega (arith, h .1))
 holds-exact (Mwd st) w n h l = h .exact (omega arith)
@@ -82,21 +83,21 @@ mass-fair r h =
     le-trans (mul-le-mul m p) (omega arith)
 
 -- a delta takes 2 of the bytes due, or the last one; an absolute value starts the count anew
-dad-few : (d : Delta) (n bytes : ℕ) → ¬ (bytes ≡ 0) → 2 * n + bytes ≤ 65536 → 2 * counted n (changeOf d) + (bytes - widthOf d) ≤ 65536
+dad-few : (d : Delta) (n bytes : ℕ) → ¬ (bytes ≡ 0) → 2 * n + bytes ≤ 65536 → 2 * deltasAfter n (changeOf d) + (bytes - widthOf d) ≤ 65536
 dad-few (By v) n bytes z h = omega arith
 dad-few (Absolute v) n bytes z h = omega arith
 
 -- and a point due
-uv-few : (d : Delta) (n points : ℕ) → ¬ (points ≡ 0) → n + points ≤ 65536 → counted n (changeOf d) + (points - 1) ≤ 65536
+uv-few : (d : Delta) (n points : ℕ) → ¬ (points ≡ 0) → n + points ≤ 65536 → deltasAfter n (changeOf d) + (points - 1) ≤ 65536
 uv-few (By v) n points z h = omega arith
 uv-few (Absolute v) n points z h = omega arith
 
-module _ (k : Kind) (s : Sum Float) (w : Sum ℤ) (n : ℕ) where
-  -- what a record that is told keeps: the kind, the added-up value, that it is shown, and that no later field turns on it
+module _ (s : Sum Float) (w : Sum ℤ) (n : ℕ) where
+  -- what a record that is told keeps: the kind in both readings, the added-up value, that it is shown, and that no later field turns on it
   pub record Keeps (t : Told) : Type 0 where
-    pub kind : kindOf ((stepped s t) .after) ≡ k
+    pub kind : (m : ℕ) → Within ((summed w n t) .after .state) m → Within ((stepped s t) .after) m
     pub holds : Holds ((stepped s t) .after) ((summed w n t) .after .sum) ((summed w n t) .after .deltas)
-    pub shown : Within k ((summed w n t) .shows .deltas) → unscaledOf ((stepped s t) .shows) ≡ (sumOf ((stepped s t) .after)) .value
+    pub shown : Within ((stepped s t) .after) ((summed w n t) .shows .deltas) → unscaledOf ((stepped s t) .shows) ≡ (sumOf ((stepped s t) .after)) .value
     pub same : fields ((stepped s t) .after) ≡ fields ((summed w n t) .after .state)
 
 -- records that come in scans
@@ -105,57 +106,57 @@ unfolding scanning
 every-scanning f new within = every-cond (f .done) (λ t. at-ends) (λ t. every-cond (eqb (f .due) 0) (λ t. new) (λ t. within (eqb-false (f .due) 0 t)))
 
 module _ {s : Sum Float} {w : Sum ℤ} {n : ℕ} where
-  fid-keeps : (st : ChemstationFidState) → Slopes s w n → Every (Keeps fid s w n) (fidRule st)
+  fid-keeps : (st : ChemstationFidState) → Slopes s w n → Every (Keeps s w n) (fidRule st)
   unfolding fidRule
   fid-keeps st h =
       every-may-end (every-then (twos-complement be-below 2) λ v f. every-cond (isInt v (pos 32767))
       (λ t. every-then (twos-complement be-below 4) λ high g. every-then (unsigned be-below 2) λ low l. at-gives (kept (restarts high low) (restart high low g l)))
       (λ t. at-gives (kept (slopes v) (sloping-step v f h))))
     where
-      kept : (c : Change) → Slopes (changed doubles s c) (changed wholes w c) (counted n c) → Keeps fid s w n (told (fidMade st) (c ∷ []))
-      kept c h = record { kind = refl; holds = h; shown = λ i. refl; same = refl }
+      kept : (c : Change) → Slopes (changed doubles s c) (changed wholes w c) (deltasAfter n c) → Keeps s w n (told (fidMade st) (c ∷ []))
+      kept c h = record { kind = λ m i. i; holds = h; shown = λ i. refl; same = refl }
 
-  ms-point : (scans : Scans) (points : Points) (time : Float) → Adds s w n → Every (Keeps ms s w n) (msPoint scans points time)
+  ms-point : (scans : Scans) (points : Points) (time : Float) → Adds s w n → Every (Keeps s w n) (msPoint scans points time)
   unfolding msPoint
   ms-point scans points time h =
       every-then any λ m _. every-then (unsigned be-below 2) λ r l. every-cond (eqb (points .0) 1)
       (λ t. every-then any λ _ _. at-gives (kept _ _ m r l))
       (λ t. at-gives (kept _ _ m r l))
     where
-      kept : (scans : Scans) (points : Points) (m r : ℕ) → r < 65536 → Keeps ms s w n (told (msMade scans points time m) (msValue r ∷ []))
-      kept scans points m r l = record { kind = refl; holds = (adds-all (msValue r ∷ []) s w n (mass-fair r l, tt) h, omega arith); shown = λ i. refl; same = refl }
+      kept : (scans : Scans) (points : Points) (m r : ℕ) → r < 65536 → Keeps s w n (told (msMade scans points time m) (msValue r ∷ []))
+      kept scans points m r l = record { kind = λ m i. i; holds = (adds-all (msValue r ∷ []) s w n (mass-fair r l, tt) h, omega arith); shown = λ i. refl; same = refl }
 
-  ms-scans : (scans : ℕ) → Adds s w n → Every (Keeps ms s w n) (msScans scans)
+  ms-scans : (scans : ℕ) → Adds s w n → Every (Keeps s w n) (msScans scans)
   unfolding msScans
   ms-scans zero h = at-ends
   ms-scans (suc scans) h =
       every-then any λ c _. every-cond (ltb c 14) (λ t. at-refuses)
       (λ t. every-then any λ time _. every-then any λ _ _. every-cond (eqb ((c - 14) / 2) 0) (λ t. every-then any λ _ _. ms-scans scans h) (λ t. ms-point _ _ _ h))
 
-  ms-keeps : (st : ChemstationMsState) → Adds s w n → Every (Keeps ms s w n) (msRule st)
+  ms-keeps : (st : ChemstationMsState) → Adds s w n → Every (Keeps s w n) (msRule st)
   ms-keeps st h = every-scanning (msScanning st) (ms-scans (st .«n_scans_left» .0) h) (λ z. ms-point _ _ _ h)
 
   -- a point of MWD, DAD or UV
-  point : {order : List ℕ → ℕ} (k : Kind) (m : Delta → Made) (first : List Change) → Order order → AllFair first → Adds s w n →
-      ((d : Delta) → let cs = first ++ (changeOf d ∷ []) in Adds (after doubles s cs) (after wholes w cs) (foldl counted n cs) → Keeps k s w n (told (m d) cs)) →
-      Every (Keeps k s w n) (mapRule (λ d. told (m d) (first ++ (changeOf d ∷ []))) (delta order))
-  point k m first o a h g = every-then (delta-fair o) λ d f. at-gives (g d (adds-all (first ++ (changeOf d ∷ [])) s w n (all-fair first (changeOf d) a f) h))
+  point : {order : List ℕ → ℕ} (m : Delta → Made) (first : List Change) → Order order → AllFair first → Adds s w n →
+      ((d : Delta) → let cs = first ++ (changeOf d ∷ []) in Adds (after doubles s cs) (after wholes w cs) (foldl deltasAfter n cs) → Keeps s w n (told (m d) cs)) →
+      Every (Keeps s w n) (mapRule (λ d. told (m d) (first ++ (changeOf d ∷ []))) (delta order))
+  point m first o a h g = every-then (delta-fair o) λ d f. at-gives (g d (adds-all (first ++ (changeOf d ∷ [])) s w n (all-fair first (changeOf d) a f) h))
 
-  mwd-keeps : (st : ChemstationMwdState) → Adds s w n → Every (Keeps mwd s w n) (mwdRule st)
+  mwd-keeps : (st : ChemstationMwdState) → Adds s w n → Every (Keeps s w n) (mwdRule st)
   unfolding mwdRule mwdPoint
   mwd-keeps st h = every-may-end (every-cond (eqb (st .«n_wvs_left» .0) 0) (λ t. every-then any λ group _. every-cond (eqb (group % 4096) 0) (λ t. at-ends) (λ t. here _)) (λ t. here _))
     where
-      here : (points : Points) → Every (Keeps mwd s w n) (mwdPoint st points)
-      here points = point mwd _ [] be-below tt h λ d r. record { kind = refl; holds = r; shown = λ i. refl; same = refl }
+      here : (points : Points) → Every (Keeps s w n) (mwdPoint st points)
+      here points = point _ [] be-below tt h λ d r. record { kind = λ m i. i; holds = r; shown = λ i. refl; same = refl }
 
-  dad-point : (st : ChemstationDadState) (first : List Change) → AllFair first → Adds s w n → ¬ (st .«n_bytes_left» .0 ≡ 0) → 2 * foldl counted n first + st .«n_bytes_left» .0 ≤ 65536 →
-      Every (Keeps dad s w n) (dadPoint st first)
+  dad-point : (st : ChemstationDadState) (first : List Change) → AllFair first → Adds s w n → ¬ (st .«n_bytes_left» .0 ≡ 0) → 2 * foldl deltasAfter n first + st .«n_bytes_left» .0 ≤ 65536 →
+      Every (Keeps s w n) (dadPoint st first)
   unfolding dadPoint
   dad-point st first a h z l =
-      point dad _ first le-below a h
-      λ d r. record { kind = refl; holds = (r, rw (foldl-append counted n first (changeOf d ∷ [])) (dad-few d (foldl counted n first) (st .«n_bytes_left» .0) z l)); shown = λ i. refl; same = refl }
+      point _ first le-below a h
+      λ d r. record { kind = λ m i. i; holds = (r, rw (foldl-append deltasAfter n first (changeOf d ∷ [])) (dad-few d (foldl deltasAfter n first) (st .«n_bytes_left» .0) z l)); shown = λ i. refl; same = refl }
 
-  dad-keeps : (st : ChemstationDadState) → Adds s w n → 2 * n + st .«n_bytes_left» .0 ≤ 65536 → Every (Keeps dad s w n) (dadRule st)
+  dad-keeps : (st : ChemstationDadState) → Adds s w n → 2 * n + st .«n_bytes_left» .0 ≤ 65536 → Every (Keeps s w n) (dadRule st)
   unfolding dadScan
   dad-keeps st h l =
       every-scanning (dadScanning st)
@@ -165,14 +166,14 @@ module _ {s : Sum Float} {w : Sum ℤ} {n : ℕ} where
       (λ t. at-ends))
       (λ z. dad-point (dadOnward st) [] tt h z l)
 
-  uv-point : (st : ChemstationUvState) (scans : Scans) (first : List Change) → AllFair first → Adds s w n → ¬ (st .«n_wvs_left» .0 ≡ 0) → foldl counted n first + st .«n_wvs_left» .0 ≤ 65536 →
-      Every (Keeps uv s w n) (uvPoint st scans first)
+  uv-point : (st : ChemstationUvState) (scans : Scans) (first : List Change) → AllFair first → Adds s w n → ¬ (st .«n_wvs_left» .0 ≡ 0) → foldl deltasAfter n first + st .«n_wvs_left» .0 ≤ 65536 →
+      Every (Keeps s w n) (uvPoint st scans first)
   unfolding uvPoint uvScan
   uv-point st scans first a h z l =
-      point uv _ first le-below a h
-      λ d r. record { kind = refl; holds = (r, rw (foldl-append counted n first (changeOf d ∷ [])) (uv-few d (foldl counted n first) (st .«n_wvs_left» .0) z l)); shown = λ i. refl; same = refl }
+      point _ first le-below a h
+      λ d r. record { kind = λ m i. i; holds = (r, rw (foldl-append deltasAfter n first (changeOf d ∷ [])) (uv-few d (foldl deltasAfter n first) (st .«n_wvs_left» .0) z l)); shown = λ i. refl; same = refl }
 
-  uv-keeps : (st : ChemstationUvState) → Adds s w n → n + st .«n_wvs_left» .0 ≤ 65536 → Every (Keeps uv s w n) (uvRule st)
+  uv-keeps : (st : ChemstationUvState) → Adds s w n → n + st .«n_wvs_left» .0 ≤ 65536 → Every (Keeps s w n) (uvRule st)
   unfolding uvScan
   uv-keeps st h l =
       every-scanning (uvScanning st)
@@ -181,18 +182,18 @@ module _ {s : Sum Float} {w : Sum ℤ} {n : ℕ} where
       (λ t. every-then any λ _ _. uv-point (uvBegun st time start end step) (st .«n_scans_left») (clears ∷ []) (tt, tt) h (λ z. omega arith) (omega (arith, div-le-self (end - start) step)))))
       (λ z. uv-point st (uvLeft st) [] tt h z l)
 
-  array-keeps : (st : ChemstationArrayState) → Every (Keeps array s w n) (arrayRule st)
+  array-keeps : (st : ChemstationArrayState) → Every (Keeps s w n) (arrayRule st)
   unfolding arrayRule
   array-keeps st = every-cond (eqb (st .«n_scans_left» .0) 0) (λ t. at-ends) (λ t. here (st .«record_type»))
     where
-      kept : (x : Float) → Keeps array s w n (told (arrayMade st x) [])
-      kept x = record { kind = refl; holds = tt; shown = λ i. absurd i; same = refl }
+      kept : (x : Float) → Keeps s w n (told (arrayMade st x) [])
+      kept x = record { kind = λ m i. i; holds = tt; shown = λ i. absurd i; same = refl }
 
-      here : (r : ChemstationArrayRecordType) → Every (Keeps array s w n) (mapRule (λ x. told (arrayMade st x) []) (stored r))
+      here : (r : ChemstationArrayRecordType) → Every (Keeps s w n) (mapRule (λ x. told (arrayMade st x) []) (stored r))
       here Float64Array = every-then any λ x _. at-gives (kept x)
       here Float32Array = every-then any λ x _. at-gives (kept x)
 
-pub keeps : (st : State) (w : Sum ℤ) (n : ℕ) → Holds st w n → Every (Keeps (kindOf st) (sumOf st) w n) (fields st)
+pub keeps : (st : State) (w : Sum ℤ) (n : ℕ) → Holds st w n → Every (Keeps (sumOf st) w n) (fields st)
 keeps (Fid st) w n h = fid-keeps st h
 keeps (Ms st) w n h = ms-keeps st (h .0)
 keeps (Mwd st) w n h = mwd-keeps st h

@@ -8,7 +8,7 @@ use Rattle.chemread.proofs.chemstation_fill.Tie as tie
 returns : tie.Need-returns
 returns c =
     let m = c .before .before .before .before in
-    rw (c .number .ensures) (fills-nothing _ _ _ (sym (m .state-of .ensures) ∙ c .before .before .enum-told .given .1))
+    rw (c .number-of .ensures) (fills-nothing _ _ _ (sym (m .state-of .ensures) ∙ c .before .before .enum-told .given .1))
 
 returns-2 : tie.Need-returns-2
 returns-2 c =

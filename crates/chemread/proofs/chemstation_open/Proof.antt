@@ -5,12 +5,12 @@ use Rattle.chemread.proofs.chemstation_open.Statement.{statement}
 use Rattle.chemread.proofs.chemstation_open.Tie as tie
 
 returns : tie.Need-returns
-returns c = rw (c .stop-number .ensures) (opens-into _ _ _ _ _ (c .before .before .before .before .before .open-run .ensures) (c .before .before .answer .given .1))
+returns c = rw (c .stop-number .ensures) (opens-into _ _ (c .before .before .before .before .before .open-run .ensures) (c .before .before .answer .given .1))
 
 returns-2 : tie.Need-returns-2
 returns-2 c =
     let h = c .before .before .before .before .before in
-    rw (h .header-of .ensures, c .before .before .before .before .corrections-of .ensures, c .before .numbers-of .ensures, c .counts-of .ensures) (opens-into _ _ _ _ _ (h .before .before .before .before .before .open-run .ensures) (h .before .before .answer2 .given .1))
+    rw (h .header-of .ensures, c .before .before .before .before .corrections-of .ensures, c .before .numbers-of .ensures, c .counts-of .ensures) (opens-into _ _ (h .before .before .before .before .before .open-run .ensures) (h .before .before .answer2 .given .1))
 
 pub chemstation-open-spec : {M : Type 1} → statement M
 chemstation-open-spec =

@@ -5,7 +5,7 @@ use Rattle.chemread.proofs.chemstation_text.Statement.{statement}
 use Rattle.chemread.proofs.chemstation_text.Tie as tie
 
 returns : tie.Need-returns
-returns c = rw (c .number .ensures) (fetches-into _ _ _ _ _ _ (c .before .before .before .before .before .before .fetch-text .ensures) (c .before .before .r .given .1))
+returns c = rw (c .number-of .ensures) (fetches-into _ _ _ _ _ _ (c .before .before .before .before .before .before .fetch-text .ensures) (c .before .before .r .given .1))
 
 returns-2 : tie.Need-returns-2
 returns-2 c = fetches-into _ _ _ _ _ _ (c .before .before .before .before .before .fetch-text .ensures) (c .before .n .given .1)

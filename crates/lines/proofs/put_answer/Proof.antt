@@ -14,7 +14,7 @@ returns c = (put-as (ap (λ z. answerText (stopOf z)) (sym (c .before .before .b
 
 returns-2 : tie.Need-returns-2
 unfolding answerText
-returns-2 c = (put-as (ap (λ n. number n 32) (c .before .before .before .number .ensures) ∙ ap (λ z. answerText (stopOf z)) (sym (c .before .before .before .before .before .before .z .given .1))) (c .before .before .put-number2 .ensures .0), search needs)
+returns-2 c = (put-as (ap (λ n. number n 32) (c .before .before .before .number-of .ensures) ∙ ap (λ z. answerText (stopOf z)) (sym (c .before .before .before .before .before .before .z .given .1))) (c .before .before .put-number2 .ensures .0), search needs)
 
 returns-3 : tie.Need-returns-3
 unfolding answerText

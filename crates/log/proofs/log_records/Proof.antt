@@ -4,7 +4,7 @@ use native.Mathlib.Omega.{arith}
 use borrow.Author.Needs.{needs}
 use lib.ListN.{length}
 use Rattle.chemstation.proofs.Answers.{answered}
-use Rattle.log.proofs.Logs.{line-some, Logging, logging-start, logging-more}
+use Rattle.log.proofs.Logs.{line-some, no-room, logged-stops, Logging, logging-start, logging-more, logging-end}
 use Rattle.log.proofs.log_records.Statement.{statement}
 use Rattle.log.proofs.log_records.Tie as tie
 
@@ -25,15 +25,8 @@ returns c =
     let m = c .before .before .before in
     let l = m .before .before .before in
     let a = l .before .before .before .args in
-    let g = l .loop .inv in
-    record {
-      records = g .records;
-      ran = g .ran;
-      inside = g .inside;
-      put = g .put;
-      count = g .counted;
-      stop = answered (l .loop .cur) (a .last) (a .src .now) (l .loop .f) _ _ (m .next-record .ensures) (c .before .z .given .1);
-    }
+    let q = answered (l .loop .cur) (a .last) (a .src .now) (l .loop .f) _ _ (m .next-record .ensures) (c .before .z .given .1) in
+    logging-end _ _ _ _ _ _ _ _ _ _ _ _ (l .loop .inv) (logged-stops _ _ _ _ (omega arith) q)
 
 loop-again : tie.Need-loop-again Inv-loop μ-loop
 loop-again c =
@@ -42,7 +35,7 @@ loop-again c =
     let l = m .before .before .before in
     let a = l .before .before .before .args in
     let q = answered (l .loop .cur) (a .last) (a .src .now) (l .loop .f) _ _ (m .next-record .ensures) (p .before .before .before .r .given .1) in
-    logging-more _ _ _ _ _ _ _ _ _ _ _ _ _ _ _ _ (l .loop .inv) q (p .put-record .ensures .0)
+    logging-more _ _ _ _ _ _ _ _ _ _ _ _ _ _ _ _ (l .loop .inv) (omega arith) q (p .put-record .ensures .0)
 
 add-f : tie.Need-add-f Inv-loop μ-loop
 add-f c = omega (arith, loop-again c .inside)
@@ -57,9 +50,7 @@ loop-less c =
     omega (arith, e .0 .next, e .0 .same, e .0 .fits, line-some (p .before .before .before .r .given .0 .0))
 
 returns-2 : tie.Need-returns-2 Inv-loop μ-loop
-returns-2 c =
-    let g = c .before .loop .inv in
-    record { records = g .records; ran = g .ran; inside = g .inside; put = g .put; count = g .counted; stop = omega (arith, g .put .fits, g .put .same) }
+returns-2 c = logging-end _ _ _ _ _ _ _ _ _ _ _ _ (c .before .loop .inv) (no-room _ _ _ _ _ (omega arith))
 
 pub log-records-spec : {M : Type 1} → statement M
 log-records-spec =

@@ -13,7 +13,7 @@ returns c = rw (c .before .if1 .taken) (c .open-array .ensures)
 
 returns-2 : tie.Need-returns-2
 unfolding _>>=_ ofInt ofBits
-returns-2 c = whole-opened (c .before .before .before .args .h .now) (rw (ne-eqb _ 6 (c .before .if1 .left), c .be-u32 .ensures) refl)
+returns-2 c = whole-opened (c .before .before .before .args .h .now) (rw (ne-eqb _ 6 (c .before .if1 .left), c .scans-at .ensures) refl)
 
 pub open-described-spec : {M : Type 1} → statement M
-open-described-spec = tie.close (tie.spec (λ c κs. search needs) returns (λ c κs. search needs) (λ c. search needs) returns-2)
+open-described-spec = tie.close (tie.spec (λ c κs. search needs) returns (λ c κs. search needs) returns-2)

@@ -4,7 +4,8 @@ use Prim.Native.Nat.{_-_}
 use native.Mathlib.Omega.{arith}
 use borrow.Author.Needs.{needs}
 use Rattle.pascal.specs.Texts.{placeRule}
-use Rattle.metadata.specs.Remaining.{afterDescription, OpensWhole}
+use Rattle.metadata.specs.Remaining.{OpensWhole}
+use Rattle.metadata.specs.Metadata.{afterDescription}
 use Rattle.metadata.proofs.Gathers.{Gathered, starts, refused, found, all}
 use Rattle.metadata.proofs.Opens.{whole-refused, texts-refuse, texts-found}
 use Rattle.metadata.proofs.open_texts.Statement.{statement}

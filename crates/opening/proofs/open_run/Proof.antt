@@ -3,6 +3,7 @@ use mathlib.Core.Path.{subst}
 use native.Mathlib.Nat.{sub-zero}
 use borrow.Author.Needs.{needs}
 use Rattle.metadata.specs.Metadata.{Blank}
+use Rattle.rules.proofs.Laws.{read-map}
 use Rattle.metadata.proofs.HeaderReads.{read-stopped, read-opened, fits}
 use Rattle.opening.proofs.open_run.Statement.{statement}
 use Rattle.opening.proofs.open_run.Tie as tie
@@ -28,14 +29,14 @@ returns c =
     let r = o .open-header .result in
     let e = c .before .answer .given .1 in
     let q = read-stopped (a .last) (a .kind) (a .s .now) r (o .open-header .ensures) e in
-    record { state = rw q; says = rw q; empty = subst (Blank (r .metadata)) e (o .open-header .ensures .empty) }
+    record { state = rw (read-map, q); says = rw (read-map, q); empty = subst (Blank (r .metadata)) e (o .open-header .ensures .empty) }
 
 returns-2 : tie.Need-returns-2
 returns-2 c =
     let o = c .before .before .before .before .before .before in
     let a = o .before .before .args in
     let q = read-opened (a .last) (a .kind) (a .s .now) (o .open-header .result) (o .open-header .ensures) (c .before .before .before .answer2 .given .1) in
-    record { state = rw (q, c .first-state .ensures, sub-zero); says = rw q; empty = tt }
+    record { state = rw (read-map, q, c .first-state .ensures, sub-zero); says = rw (read-map, q); empty = tt }
 
 pub open-run-spec : {M : Type 1} → statement M
 open-run-spec =

@@ -6,9 +6,9 @@ use borrow.Author.Needs.{needs}
 use lib.ListN.{length, drop, length-drop}
 use Rattle.rules.proofs.Laws.{taken-within}
 use Rattle.chemstation.specs.Next.{rule}
-use Rattle.reader.specs.Columns.{columns}
+use Rattle.reader.specs.Columns.{columns, Even}
 use Rattle.chemstation.proofs.Answers.{answered}
-use Rattle.reader.proofs.ColumnLaws.{Even, even-if, Going, going-start, going-more, going-stops, going-full}
+use Rattle.reader.proofs.ColumnLaws.{even-if, Going, going-start, going-more, going-stops, going-full}
 use Rattle.reader.proofs.fill_equal.Statement.{statement}
 use Rattle.reader.proofs.fill_equal.Tie as tie
 

@@ -38,8 +38,8 @@ add-at c =
     let e = sym (c .before .before .before .front-at .ensures) ∙ x .1 in
     record { fits = omega (arith, fits _ _ _ (l .inv) (c .before .before .before .before .loop-test .taken) (x .0 .0) (x .0 .1 .0) e) }
 
-marked-requires : tie.Need-marked-requires Inv-loop μ-loop
-marked-requires c κs = search needs
+next-mark-requires : tie.Need-next-mark-requires Inv-loop μ-loop
+next-mark-requires c κs = search needs
 
 loop-less : tie.Need-loop-less Inv-loop μ-loop
 loop-less c =
@@ -54,7 +54,7 @@ loop-again c =
     let l = c .before .before .before .before .before .before .loop in
     let x = c .before .before .c .given in
     let e = sym (c .before .before .before .before .front-at .ensures) ∙ x .1 in
-    subst (λ (m : Mark). Going (now (c .before .before .before .before .before .before .before .before .args .s)) (l .at + x .0 .1 .0) m) (sym (c .marked .ensures))
+    subst (λ (m : Mark). Going (now (c .before .before .before .before .before .before .before .before .args .s)) (l .at + x .0 .1 .0) m) (sym (c .next-mark .ensures))
     (goes-on _ _ _ (l .inv) (c .before .before .before .before .before .loop-test .taken) (x .0 .0) (x .0 .1 .0) e)
 
 sub-count : tie.Need-sub-count Inv-loop μ-loop
@@ -75,7 +75,7 @@ trim-utf8-spec =
     returns
     enum-known-c
     add-at
-    marked-requires
+    next-mark-requires
     loop-less
     loop-again
     sub-count

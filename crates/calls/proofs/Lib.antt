@@ -1,0 +1,4 @@
+mod Calling
+mod Rows
+mod CallLoop
+mod Opened

@@ -1,0 +1,4 @@
+pub mod Lengths
+pub mod Falls
+mod Ends
+mod Owes

@@ -1,0 +1,61 @@
+"""`press show`: what a run's header says, and how far its records go."""
+from press import advice, cli
+
+HELP = "what a header says"
+DESCRIPTION = (
+    "Prints what the header of a run says, each field by its name, and how many records the run has, from when to when, and what closed "
+    "it. Times are in minutes. Control characters in a text are written as \\x and two digits."
+)
+
+
+def add(subparsers):
+    cli.add_run(cli.added(subparsers, "show", run, HELP, DESCRIPTION))
+
+
+def plain(text):
+    return "".join(f"\\x{ord(c):02X}" if ord(c) < 32 or ord(c) == 127 else c for c in text)
+
+
+def minutes(time):
+    """Ten digits: sums of 0.2 are not shown to the last bit."""
+    return f"{time:.10g} minutes"
+
+
+def header(run):
+    """What the header says, as pairs of a name and a text."""
+    return [
+        ("kind", f"{run.kind} {run.kind_name}"),
+        ("edition", str(run.edition)),
+        ("header", f"{run.size} bytes"),
+        ("sequence", str(run.sequence)),
+        ("vial", str(run.vial)),
+        ("replicate", str(run.replicate)),
+        ("start", minutes(run.start)),
+        ("end", minutes(run.end)),
+        ("offset", str(run.offset)),
+        ("multiplier", str(run.multiplier)),
+        *((name.replace("_", " "), plain(text)) for name, text in run.texts.items()),
+    ]
+
+
+def reach(columns):
+    """How far the records go, as such pairs."""
+    pairs = [("records", str(columns.count))]
+    if columns.count:
+        pairs += [("first time", minutes(columns.time[0])), ("last time", minutes(columns.time[-1]))]
+    pairs += [("closed with", f"{columns.closing.number}: {columns.closing.words}")]
+    if columns.left and columns.left.last_scan:
+        pairs += [("unread", f"{columns.left.last_scan} bytes of the last scan")]
+    return pairs
+
+
+def lines(pairs):
+    return [f"{name:<14}{text}".rstrip() + "\n" for name, text in pairs]
+
+
+def run(arguments):
+    opened = cli.opened(arguments)
+    with cli.output(None) as out:
+        out.writelines(lines([("file", plain(arguments.file)), ("bytes", str(opened.length)), *header(opened), *reach(opened.columns())]))
+    cli.advise(arguments.file, advice.of_run(opened, arguments.file))
+    return cli.closed(arguments, opened.closing)

@@ -1,0 +1,56 @@
+"""`press table`: a run as text or CSV."""
+import csv
+import os
+
+from press import advice, cli, show
+
+HELP = "a run as text or CSV"
+DESCRIPTION = (
+    "Prints a run as a table: a row for each record, with its time in minutes, its m/z (MS) or its wavelength in nanometres (DAD, UV), and "
+    "its intensity before and after scaling. Each number is written with the digits that give its double again. Text has what the header "
+    "says above the table and what closed the run below it. CSV (--csv) has a line of names and the rows, and where another "
+    "answer than 0 closed the run a last line that says so and begins with #."
+)
+
+
+def add(subparsers):
+    parser = cli.added(subparsers, "table", run, HELP, DESCRIPTION)
+    cli.add_run(parser)
+    parser.add_argument("--csv", action="store_true", help="comma-separated values in place of text")
+    parser.add_argument("-o", "--output", metavar="OUT", help="write to the file OUT, which is put in place when it is whole")
+
+
+def named(opened):
+    """The columns that the kind has, by name."""
+    columns = opened.columns()
+    axis = {opened.axis_name: columns.axis} if opened.axis_name else {}
+    return {"time": columns.time, **axis, "unscaled": columns.unscaled, "scaled": columns.scaled}
+
+
+def as_csv(opened, out):
+    columns = named(opened)
+    rows = csv.writer(out, lineterminator="\n")
+    rows.writerow(columns)
+    rows.writerows(zip(*columns.values()))
+    if opened.closing.number != 0:
+        out.write(f"# {opened.closing}\n")
+
+
+def as_text(opened, out):
+    columns = named(opened)
+    out.writelines(show.lines(show.header(opened)))
+    out.write("\n" + "".join(f"{name:>24}" for name in columns) + "\n")
+    form = ("{!r:>24}" * len(columns) + "\n").format
+    out.writelines(form(*row) for row in zip(*columns.values()))
+    out.write("\n")
+    out.writelines(show.lines(show.reach(opened.columns())))
+
+
+def run(arguments):
+    opened = cli.opened(arguments)
+    if arguments.output and os.path.exists(arguments.output) and os.path.samefile(arguments.output, arguments.file):
+        raise cli.GiveUp(f"{arguments.output}: is the run file itself")
+    with cli.output(arguments.output) as out:
+        (as_csv if arguments.csv else as_text)(opened, out)
+    cli.advise(arguments.file, advice.of_run(opened, arguments.file))
+    return cli.closed(arguments, opened.closing)

@@ -1,0 +1,181 @@
+"""What the tests share: checks that are counted, scripts as modules, tools that are run, and headers of small runs.
+
+The tools are run with the log program target/bin/chemlog, or the one that CHEMLOG names.
+"""
+import os
+import shutil
+import subprocess
+import sys
+import time
+from importlib.machinery import SourceFileLoader
+from importlib.util import module_from_spec, spec_from_loader
+from pathlib import Path
+
+sys.dont_write_bytecode = True
+ROOT = Path(__file__).resolve().parent.parent
+PROGRAM = os.path.abspath(os.environ.get("CHEMLOG") or ROOT / "target/bin/chemlog")
+os.environ["CHEMLOG"] = PROGRAM  # the tools run in other folders
+
+PATIENCE = 20  # seconds
+
+
+def help_asked(text):
+    """Where a test was asked for help: what it is, and nothing is tested."""
+    if {"-h", "--help"} & set(sys.argv[1:]):
+        print(text.strip(), "\n\nThe kinds of run: 1 FID, 2 MS, 3 MWD, 4 DAD, 5 UV, 6 array.", sep="")
+        sys.exit(0)
+
+
+passed, failed = 0, []
+
+
+def loaded(path):
+    loader = SourceFileLoader(path.stem.replace("-", "_"), str(path))
+    module = module_from_spec(spec_from_loader(loader.name, loader))
+    loader.exec_module(module)
+    return module
+
+
+samples = loaded(ROOT / "tools/make-samples")
+header, sized, be, le = samples.header, samples.sized, samples.be, samples.le
+
+
+def shown(value):
+    text = repr(value)
+    return text if len(text) <= 600 else text[:200] + " .. " + text[-400:]
+
+
+def check(name, got, want):
+    global passed
+    if got == want:
+        passed += 1
+    else:
+        failed.append(name)
+        print(f"FAILED {name}\n  due:  {shown(want)}\n  came: {shown(got)}")
+
+
+def end(name):
+    """Says how many checks there were, and ends with the status of the tests."""
+    print(f"{name}: {passed} passed, {len(failed)} failed")
+    sys.exit(1 if failed else 0)
+
+
+def plain(kind, size=None, scans=10**6, edition=2, fields=()):
+    """A header that opens, zeros but for its fields: for MS, DAD and UV with so many scans due, for an array 10 minutes of 0.1
+    seconds."""
+    size = size or (4608 if kind == 6 else 512)
+    times = [(286, be("i", 600000)), (4122, be("HH", 1, 10))] if kind == 6 else []
+    scans = [(278, be("I", scans))] if kind in (2, 4, 5) else []
+    return sized(header(size, edition, [*times, *scans, *fields]), ms=kind == 2)
+
+
+def leaving():
+    """Runs that close with 0: what each is, its kind, its bytes, and how many of these are left of the last scan and behind the run;
+    from docs/FORMAT.md, section 5. All are smaller than the log program's buffer."""
+    made = {name: make() for name, (_, make) in samples.RUNS.items()}
+    yield "FID", 1, made["fid"], (0, 0)
+    yield "MS", 2, made["ms"], (0, 0)
+    yield "MS and 5 bytes", 2, made["ms"] + bytes(5), (0, 5)
+    empty = be("HI", 14, 60000) + bytes(22)
+    more = made["ms"][:278] + be("I", 5) + made["ms"][282:]  # two scans more than the 3 of the sample
+    yield "MS with two empty scans at its end", 2, more + empty * 2, (0, 0)
+    yield "MS with two empty scans at its end and 7 bytes", 2, more + empty * 2 + bytes(7), (0, 7)
+    yield "MS without scans", 2, made["ms"][:278] + bytes(4) + made["ms"][282:], (0, len(made["ms"]) - 512)
+    yield "MWD", 3, made["mwd"], (0, 0)
+    yield "MWD and an empty group", 3, made["mwd"] + be("H", 0x1000), (0, 0)
+    yield "MWD, an empty group and 6 bytes", 3, made["mwd"] + be("H", 0x1000) + bytes(6), (0, 6)
+    yield "DAD", 4, made["dad"], (2, 0)
+    yield "DAD and 9 bytes", 4, made["dad"] + bytes(9), (2, 9)
+    yield "DAD, its last point cut", 4, made["dad"][:-1], (1, 0)
+    more = made["dad"][:278] + be("I", 9) + made["dad"][282:]
+    yield "DAD, a scan of another type", 4, more + le("H", 66), (0, 0)
+    yield "DAD, a scan of another type and 20 bytes", 4, more + le("H", 66) + bytes(20), (0, 20)
+    yield "DAD, an empty scan and 3 bytes", 4, more + le("HH", 67, 22) + bytes(18 + 3), (0, 3)
+    yield "UV", 5, made["uv"], (0, 0)
+    yield "UV and 4 bytes", 5, made["uv"] + bytes(4), (0, 4)
+    yield "array", 6, made["array"], (0, 0)
+    yield "array and 8 bytes", 6, made["array"] + bytes(8), (0, 8)
+
+
+def left_line(last_scan, behind):
+    """What the log program says on standard error where it leaves so many bytes, and all those behind the run stand in its buffer."""
+    scan, rest = f"{last_scan} bytes of the last scan", f"{behind} bytes in the buffer behind the end of the run"
+    parts = [scan] * bool(last_scan) + [rest] * bool(behind)
+    return f"chemlog: left: {', '.join(parts)}\n" if parts else ""
+
+
+def stored(name):
+    """The log of a sample, made by the original."""
+    return (ROOT / "samples" / (name + ".log")).read_text()
+
+
+def changed(env):
+    """The environment with these variables."""
+    return {**os.environ, **{name: str(value) for name, value in env.items()}}
+
+
+def tool(name, *words, cwd, root=ROOT, **env):
+    """Status, standard output and standard error of a tool."""
+    ran = subprocess.run([str(root / "tools" / name), *map(str, words)], cwd=cwd, capture_output=True, timeout=60,
+                         stdin=subprocess.DEVNULL, env=changed(env))
+    return ran.returncode, ran.stdout.decode("latin-1"), ran.stderr.decode("latin-1")
+
+
+def until(test):
+    """Waits for what another process does."""
+    deadline = time.monotonic() + PATIENCE
+    while not test():
+        if time.monotonic() > deadline:
+            raise TimeoutError
+        time.sleep(0.01)
+
+
+def number_in(path):
+    """The number that another process writes to a file, as soon as it is there."""
+    until(lambda: path.exists() and path.read_text().endswith("\n"))
+    return int(path.read_text())
+
+
+def runs(number):
+    """Whether there is a process of this number."""
+    try:
+        os.kill(number, 0)
+        return True
+    except ProcessLookupError:
+        return False
+
+
+def script(path, text):
+    path.parent.mkdir(parents=True, exist_ok=True)
+    path.write_text("#!/bin/sh\n" + text)
+    path.chmod(0o755)
+    return path
+
+
+def copied_tools(root):
+    """A repository's root with the tools and no target/, as in a fresh clone."""
+    for folder in ("tools", "python"):
+        shutil.copytree(ROOT / folder, root / folder, ignore=shutil.ignore_patterns("oracle", "__pycache__"))
+    return root
+
+
+# What programs that break off print.
+BROKEN = {
+    "no closing line": "h 2 512\\n",
+    "nothing": "",
+    "a cut closing line": "h 2 512\\ne 0 ",
+    "a closing line without its end": "h 2 512\\ne 0 0",
+    "a record too few": "h 2 512\\ne 0 1\\n",
+    "no header": "r\\ne 0 1\\nr\\ne 0 3\\n",
+    "an answer that no log has": "e 15 0\\n",
+    "more behind the closing line": "e 1 0\\nr\\n",
+}
+
+
+def broken_programs(folder):
+    """Log programs that break off: what each does, itself, and what it prints."""
+    programs = {name: (f"cat >/dev/null; printf '{text}'\n", text) for name, text in BROKEN.items()}
+    programs["a status"] = ("printf 'e 1 0\\n'; exit 3\n", "e 1 0\\n")
+    programs["killed"] = ("printf 'h 2 512\\n'; kill -9 $$\n", "h 2 512\\n")
+    for number, (name, (text, printed)) in enumerate(programs.items()):
+        yield name, script(folder / f"program{number}", text), printed.replace("\\n", "\n")
