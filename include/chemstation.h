@@ -1,4 +1,4 @@
-/* Reads runs of Agilent ChemStation: what the header says, its texts, and the records as columns of doubles.
+/* Reads runs of Agilent ChemStation: what the header says, its texts, the records as columns of doubles, and the sum of a column.
  *
  * The archive is made by `rt staticlib chemread` (target/staticlib/libchemread.a, x86-64 Linux). It allocates nothing, keeps
  * nothing between calls, reads and writes no file, and needs of the C library only memcpy. Calls from several threads do not
@@ -9,7 +9,7 @@
  *
  *   - A pointer is never NULL, and points to at least as many elements as the length behind it says, or as the brackets of the
  *     parameter say. This holds for length 0 too: then any pointer to an object of the type will do.
- *   - Pointers to double and size_t are aligned to 8 bytes, as C's own objects of these types are.
+ *   - Pointers to double, size_t and int64_t are aligned to 8 bytes, as C's own objects of these types are.
  *   - What a call may write (every pointer without `const`) overlaps nothing else that the same call is lent.
  *   - Nothing else writes what a call is lent while the call runs.
  *   - A bool is true or false.
@@ -36,7 +36,7 @@ enum chemstation_kind {
     CHEMSTATION_ARRAY = 6
 };
 
-/* Answers. docs/ANSWERS.md says what can be done about the refusals, 1 to 16. */
+/* Answers. docs/ANSWERS.md says what can be done about the refusals, 1 to 17. */
 enum chemstation_answer {
     CHEMSTATION_FINISHED = 0,
     CHEMSTATION_UNKNOWN_KIND = 1,
@@ -55,9 +55,10 @@ enum chemstation_answer {
     CHEMSTATION_INCOMPLETE = 14,
     CHEMSTATION_LENT_LENGTH = 15,
     CHEMSTATION_UNKNOWN_TEXT = 16,
+    CHEMSTATION_SUM_OUT_OF_RANGE = 17,
     CHEMSTATION_MORE_BYTES = 101, /* the bytes end inside the header or a record, and were not told to be the last */
     CHEMSTATION_FULL = 102,       /* the columns are full */
-    CHEMSTATION_GIVEN = 103       /* a run was opened, or a text fetched */
+    CHEMSTATION_GIVEN = 103       /* a run was opened, a text fetched, or a column added up */
 };
 
 /* Places in `header`. */
@@ -121,6 +122,15 @@ uint8_t chemstation_text(uint8_t kind, uint8_t number, const uint8_t *bytes, siz
 uint8_t chemstation_fill(double numbers[6], size_t counts[4], const uint8_t *bytes, size_t length, bool last, double *time,
                          size_t time_length, double *axis, size_t axis_length, double *unscaled, size_t unscaled_length,
                          double *scaled, size_t scaled_length, size_t given[2]);
+
+/* Adds the values of a column, one after the other, to *sum, in whole numbers. The caller sets *sum to 0 before the first column; a
+ * run in parts goes on with the same *sum. What is added up of a run is `unscaled`, the given[CHEMSTATION_RECORDS] values of each
+ * fill: that sum is the one in the log's line t.
+ *
+ * GIVEN: *sum is the new sum. -0.0 adds 0.
+ * SUM_OUT_OF_RANGE, a value is no whole number of a size below 2^53 (2^53 and -2^53 are none such, nor are an infinity and a NaN),
+ * or the sum after some value leaves 64 bits: *sum is as it was. The run has no sum then, whatever follows: the log says `t -`. */
+uint8_t chemstation_sum(const double *values, size_t length, int64_t *sum);
 
 #ifdef __cplusplus
 }

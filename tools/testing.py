@@ -4,6 +4,7 @@ The tools are run with the log program target/bin/chemlog, or the one that CHEML
 """
 import os
 import shutil
+import struct
 import subprocess
 import sys
 import time
@@ -105,8 +106,53 @@ def left_line(last_scan, behind):
 
 
 def stored(name):
-    """The log of a sample, made by the original."""
+    """The log of a sample: its lines h, r and e were made by the original."""
     return (ROOT / "samples" / (name + ".log")).read_text()
+
+
+# ---- sums
+
+SUMMED = (1, 2, 3, 4, 5)  # the kinds whose logs have a line t
+
+# The sums of the samples, worked by hand from the numbers in tools/make-samples.
+SUMS = {"printed.1": 5 + 12, "fid.1": 3 + 11 + 28 + 49 + 64 + 65 + 58 + 53 + 53 - 130968 - 2 * 130961, "ms.2": 12 + 24 + 16383 * 512 + 9000,
+        "mwd.3": 120 - 70000 - 69985 - 69988 - 69985, "dad.4": 100 + 60 + 90, "uv.5": 1000 + 1020 + 1005 + 100000 + 100005 + 100000}
+
+
+def value(number):
+    """A FID record of this value."""
+    return be("hiH", 32767, number // 65534, number % 65534)
+
+
+def beyond_64_bits(**header):
+    """A FID run of 65,539 records of the smallest value: the sum before the last is above -2^63, that with it below."""
+    return plain(1, edition=102, **header) + value(-(2**31) * 65534) + bytes(2 * 65538)
+
+
+def number_of(bits):
+    """A number of a log."""
+    return float("nan") if bits == "nan" else struct.unpack(">d", bytes.fromhex(bits))[0]
+
+
+def sum_of(values):
+    """What a line t has of these unscaled values: their sum, one by one in whole numbers, or - where it is refused."""
+    total = 0
+    for value in values:
+        if not (abs(value) < 2**53 and value.is_integer()):
+            return "-"
+        total += int(value)
+        if not -(2**63) <= total < 2**63:
+            return "-"
+    return str(total)
+
+
+def with_sum(kind, log):
+    """A log of lines h, r and e with the line t that its r lines give; an array's and that of a refused opening have none."""
+    lines = log.splitlines(True)
+    if kind not in SUMMED or not lines[0].startswith("h "):
+        return log
+    total = sum_of(number_of(line.split()[3]) for line in lines[1:-1])
+    return "".join([*lines[:-1], f"t {total}\n", lines[-1]])
 
 
 def changed(env):
@@ -161,14 +207,27 @@ def copied_tools(root):
 
 # What programs that break off print.
 BROKEN = {
-    "no closing line": "h 2 512\\n",
+    "no closing line": "h 2 512\\nt 0\\n",
     "nothing": "",
-    "a cut closing line": "h 2 512\\ne 0 ",
-    "a closing line without its end": "h 2 512\\ne 0 0",
-    "a record too few": "h 2 512\\ne 0 1\\n",
+    "a cut closing line": "h 2 512\\nt 0\\ne 0 ",
+    "a closing line without its end": "h 2 512\\nt 0\\ne 0 0",
+    "a record too few": "h 2 512\\nt 0\\ne 0 1\\n",
+    "a record too many": "h 2 512\\nr\\nt 0\\ne 0 0\\n",
+    "another line in the place of a record": "h 2 512\\nx\\nt 0\\ne 0 1\\n",
     "no header": "r\\ne 0 1\\nr\\ne 0 3\\n",
     "an answer that no log has": "e 15 0\\n",
     "more behind the closing line": "e 1 0\\nr\\n",
+    "no sum": "h 2 512\\ne 0 0\\n",
+    "no sum before another answer": "h 2 512\\ne 14 0\\n",
+    "a sum behind a refused opening": "t 0\\ne 4 0\\n",
+    "the answer of a sum as the closing one": "h 2 512\\nt -\\ne 17 0\\n",
+    "two sums": "h 2 512\\nt 0\\nt 0\\ne 0 0\\n",
+    "a sum in the place of a record": "h 2 512\\nt 0\\nt 0\\ne 0 1\\n",
+    "a sum before the last record": "h 2 512\\nt 0\\nr nan - nan nan\\ne 0 1\\n",
+    "a sum behind the closing line": "h 2 512\\ne 0 0\\nt 0\\n",
+    "a sum above 64 bits": "h 2 512\\nt 9223372036854775808\\ne 0 0\\n",
+    "a sum below 64 bits": "h 2 512\\nt -9223372036854775809\\ne 0 0\\n",
+    **{f"the sum '{word}'": f"h 2 512\\n{word}\\ne 0 0\\n" for word in ("t", "t ", "t 00", "t -0", "t +1", "t 1.0", "t --", "t 1 ", "T 0")},
 }
 
 

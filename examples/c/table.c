@@ -6,6 +6,7 @@
  * Status: 0 the run closed with 0; 1 another answer closed it, or the output could not be written; 2 wrong usage, or a file that
  * cannot be read. */
 #include <errno.h>
+#include <inttypes.h>
 #include <math.h>
 #include <stdio.h>
 #include <string.h>
@@ -37,6 +38,7 @@ static const char *const meanings[] = {
     "the file ends inside its header or a record",
     "a lent buffer or column has the wrong length",
     "no such text; texts are 1 to 8",
+    "the unscaled values do not add up in 64 bits: one is no whole number of a size below 2^53, or a sum leaves the range",
 };
 
 static const char *meaning_of(uint8_t answer) {
@@ -55,6 +57,12 @@ struct state {
     size_t counts[4];
 };
 
+/* The sum of the unscaled values so far; once refused it stays so. */
+struct total {
+    int64_t sum;
+    bool refused;
+};
+
 /* Drops so many bytes and reads on until the buffer is full or the file ends. */
 static bool refill(struct part *p, size_t dropped) {
     p->length -= dropped;
@@ -65,6 +73,9 @@ static bool refill(struct part *p, size_t dropped) {
 
 /* A full buffer is not taken as the file's last bytes. */
 static bool last(const struct part *p) { return p->length < BUFFER; }
+
+/* The values of an array run are not added up. */
+static bool has_sum(uint8_t kind) { return kind != CHEMSTATION_ARRAY; }
 
 static bool has_axis(uint8_t kind) { return kind == CHEMSTATION_MS || kind == CHEMSTATION_DAD || kind == CHEMSTATION_UV; }
 
@@ -139,6 +150,19 @@ static void put_row(bool log, bool axis, double t, double a, double u, double s)
     put_number(s, '\n');
 }
 
+static void add_up(struct total *t, const double *unscaled, size_t count) {
+    if (!t->refused)
+        t->refused = chemstation_sum(unscaled, count, &t->sum) != CHEMSTATION_GIVEN;
+}
+
+static void put_sum(bool log, const struct total *t) {
+    printf(log ? "t " : "sum\t");
+    if (t->refused)
+        printf("-\n");
+    else
+        printf("%" PRId64 "\n", t->sum);
+}
+
 static int put_end(bool log, uint8_t answer, unsigned long long count) {
     if (!log)
         printf("closed\t%s\nrecords\t%llu\n", meaning_of(answer), count);
@@ -149,20 +173,25 @@ static int put_end(bool log, uint8_t answer, unsigned long long count) {
     return answer == CHEMSTATION_FINISHED ? 0 : 1;
 }
 
-/* The records, behind the header. */
-static int put_records(bool log, bool axis, struct part *p, struct state *st) {
+/* The records, behind the header, and their sum. */
+static int put_records(bool log, uint8_t kind, struct part *p, struct state *st) {
     static double time[ROWS], axes[ROWS], unscaled[ROWS], scaled[ROWS];
+    struct total total = {0, false};
     unsigned long long count = 0;
     for (;;) {
         size_t given[2] = {0};
         uint8_t answer = chemstation_fill(st->numbers, st->counts, p->bytes, p->length, last(p), time, ROWS, axes, ROWS, unscaled,
                                           ROWS, scaled, ROWS, given);
         for (size_t i = 0; i < given[CHEMSTATION_RECORDS]; i++)
-            put_row(log, axis, time[i], axes[i], unscaled[i], scaled[i]);
+            put_row(log, has_axis(kind), time[i], axes[i], unscaled[i], scaled[i]);
+        add_up(&total, unscaled, given[CHEMSTATION_RECORDS]);
         count += given[CHEMSTATION_RECORDS];
         bool stuck = answer == CHEMSTATION_MORE_BYTES && given[CHEMSTATION_CONSUMED] == 0;
-        if ((answer != CHEMSTATION_FULL && answer != CHEMSTATION_MORE_BYTES) || stuck)
+        if ((answer != CHEMSTATION_FULL && answer != CHEMSTATION_MORE_BYTES) || stuck) {
+            if (has_sum(kind))
+                put_sum(log, &total);
             return put_end(log, answer, count);
+        }
         if (!refill(p, given[CHEMSTATION_CONSUMED]))
             return 2;
     }
@@ -184,7 +213,7 @@ static int put_run(bool log, uint8_t kind, struct part *p) {
         put_header(kind, p, header, corrections);
     if (!refill(p, header[CHEMSTATION_SIZE]))
         return 2;
-    return put_records(log, has_axis(kind), p, &st);
+    return put_records(log, kind, p, &st);
 }
 
 int main(int argc, char **argv) {

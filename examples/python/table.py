@@ -30,9 +30,19 @@ def rows(run, written):
         yield written(time), written(axis) if run.axis_name else "-", written(unscaled), written(scaled)
 
 
+def total(run, name):
+    """The sum of the unscaled intensities, or - where it is refused; the intensities of an array are not added up."""
+    if run.kind_name != "array":
+        try:
+            yield name, run.sum()
+        except chemstation.Refused:
+            yield name, "-"
+
+
 def log(run):
     yield "h", run.edition, run.size
     yield from (("r", *row) for row in rows(run, bits))
+    yield from total(run, "t")
 
 
 def table(run):
@@ -40,6 +50,7 @@ def table(run):
     yield from ((name.replace("_", " "), text) for name, text in run.texts.items())
     yield "time", run.axis_name or "-", "unscaled", "scaled"
     yield from rows(run, repr)
+    yield from total(run, "sum")
 
 
 def main():

@@ -5,7 +5,7 @@
     run = chemstation.open("samples/fid.1", "FID")
     print(run.sample, run.run_date)
     columns = run.columns()
-    print(columns.time[0], columns.scaled[0], columns.closing.words)
+    print(columns.time[0], columns.scaled[0], columns.sum(), columns.closing.words)
 
 `tools/build-library` makes the library; CHEMSTATION_LIBRARY may name another. docs/PYTHON.md has the rest.
 """
@@ -13,5 +13,6 @@ from chemstation.answers import AXES, KINDS, Answer, Refused
 from chemstation.columns import Columns, Left, Record
 from chemstation.library import NoLibrary
 from chemstation.run import Run, open
+from chemstation.sums import add_up
 
-__all__ = ["AXES", "KINDS", "Answer", "Columns", "Left", "NoLibrary", "Record", "Refused", "Run", "open"]
+__all__ = ["AXES", "KINDS", "Answer", "Columns", "Left", "NoLibrary", "Record", "Refused", "Run", "add_up", "open"]

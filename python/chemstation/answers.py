@@ -3,6 +3,8 @@
 KINDS = {1: "FID", 2: "MS", 3: "MWD", 4: "DAD", 5: "UV", 6: "array"}
 FID, MS, MWD, DAD, UV, ARRAY = KINDS
 AXES = {MS: "m/z", DAD: "wavelength", UV: "wavelength"}  # what the axis of a record is, where the kind has one
+SUMMED = [FID, MS, MWD, DAD, UV]  # the kinds whose unscaled values are added up: their logs have a line `t`
+NO_SUM = 17  # the answer to a column that does not add up; it closes no run
 
 # The words of docs/ANSWERS.md.
 MEANINGS = {
@@ -23,6 +25,7 @@ MEANINGS = {
     14: "the file ends inside its header or a record",
     15: "a lent buffer or column has the wrong length",
     16: "no such text; texts are 1 to 8",
+    17: "the unscaled values do not add up in 64 bits: one is no whole number of a size below 2^53, or a sum leaves the range",
     "m": "too many empty MS scans in a row for the program's buffer",
 }
 
@@ -71,8 +74,8 @@ class Answer:
 
 
 class Refused(Exception):
-    """A run that cannot be opened: the `number` of the refusal and its `words`."""
+    """A run that cannot be opened, or values that do not add up (17): the `number` of the refusal and its `words`."""
 
     def __init__(self, number):
         self.number, self.words = number, meaning(number)
-        super().__init__(str(Answer(number)))
+        super().__init__(f"no sum, {number}: {self.words}" if number == NO_SUM else str(Answer(number)))

@@ -4,8 +4,9 @@ import mmap
 from collections import namedtuple
 from ctypes import byref, c_double, c_size_t, c_ubyte
 
-from chemstation.answers import DAD, Answer
+from chemstation.answers import DAD, SUMMED, Answer
 from chemstation.library import FINISHED, library
+from chemstation.sums import add_up
 
 NORESERVE = 0x4000  # Linux; mmap has its name from Python 3.13 on
 COUNT_DUE = 2  # the place in a state's counts of the points, or for DAD the bytes, due in the scan
@@ -16,15 +17,23 @@ Left = namedtuple("Left", "last_scan behind")
 
 class Columns:
     """The records of a run: `time`, `axis`, `unscaled` and `scaled`, each `count` doubles (memoryviews of format 'd'); `closing`, the
-    Answer that closed them; `left`, where that answer is 0: the unread bytes of the last scan, and those behind the end of the run."""
+    Answer that closed them; `left`, where that answer is 0: the unread bytes of the last scan, and those behind the end of the run;
+    `kind`, that of the run."""
 
-    def __init__(self, columns, closing, left):
+    def __init__(self, columns, closing, left, kind):
         self.time, self.axis, self.unscaled, self.scaled = columns
-        self.count, self.closing, self.left = len(self.time), closing, left
+        self.count, self.closing, self.left, self.kind = len(self.time), closing, left, kind
 
     def records(self):
         """The records one by one, as named tuples."""
         return map(Record._make, zip(self.time, self.axis, self.unscaled, self.scaled))
+
+    def sum(self):
+        """The sum of `unscaled` in whole numbers, as the log's line t has it. Refused (17) where that says -, ValueError for an array
+        run, whose log has no such line."""
+        if self.kind not in SUMMED:
+            raise ValueError("the intensities of an array run are not added up: its log has no line t")
+        return add_up(self.unscaled)
 
 
 def column(places):
@@ -57,7 +66,7 @@ class Reading:
         memory = [column(places) for _ in range(4)]
         answer, records, consumed = self.fill(position, length, True, memory, places)
         left = self.left(position + consumed, length - consumed) if answer == FINISHED else None
-        return Columns([shrunk(part, records) for part in memory], Answer(answer), left)
+        return Columns([shrunk(part, records) for part in memory], Answer(answer), left, self.counts[0])
 
     def fill(self, position, length, last, memory, places):
         """The answer of Fill columns, and how many records and bytes it took."""

@@ -66,6 +66,10 @@ class Run:
         """The records one by one, as named tuples."""
         return self.columns().records()
 
+    def sum(self):
+        """The sum of the unscaled intensities, an int, as the log's line t has it: that of `columns()`."""
+        return self.columns().sum()
+
     @property
     def closing(self):
         """What closed the run: an Answer."""

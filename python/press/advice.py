@@ -1,4 +1,5 @@
-"""What to look at where a kind and a file disagree. Advice: it refuses nothing, and no log has it. docs/ANSWERS.md says what each means.
+"""What to look at: where a kind and a file disagree, and where the unscaled values do not add up. Advice: it refuses nothing, and no
+log has it. docs/ANSWERS.md says what each means.
 
 Each function gives a list of sentences, empty where there is nothing to say. None needs the library.
 """
@@ -6,7 +7,7 @@ import math
 import re
 from pathlib import PurePath
 
-from chemstation.answers import ARRAY, DAD, FID, KINDS, MS, MWD, UV
+from chemstation.answers import ARRAY, DAD, FID, KINDS, MS, MWD, NO_SUM, UV, meaning
 
 # The usual kinds of an ending of a name, and of an edition. Others are not spoken of.
 USUAL_ENDINGS = {".ms": [MS], ".uv": [DAD, UV], ".ch": [FID, MWD, ARRAY]}
@@ -63,6 +64,11 @@ def of_times(kind, last_time, header_end):
     return [f"the last record is at {last_time:.6g} minutes, but the header's end is {header_end:.6g}: {axis}"]
 
 
+def of_sum(total):
+    """Of what a log has in its line t, or None."""
+    return [f"the log has t - in the place of a sum, {NO_SUM}: {meaning(NO_SUM)}"] if total == "-" else []
+
+
 def of_run(run, name):
     """Of a run that was opened by the module, and of its file's name."""
     columns = run.columns()
@@ -74,11 +80,11 @@ def of_run(run, name):
     return sentences
 
 
-def of_log(kind, name, length, first, last):
-    """What needs no library: of the file's name and length in bytes, and the first and last line of its log."""
+def of_log(kind, name, length, first, last, total=None):
+    """What needs no library: of the file's name and length in bytes, the first and last line of its log, and the sum in it."""
     sentences = of_name(kind, name)
     if first.startswith("h "):
         edition, size = map(int, first.split()[1:])
         count = int(last.split()[2])
         sentences += of_edition(kind, edition) + of_records(count, length - size)
-    return sentences
+    return sentences + of_sum(total)

@@ -1,8 +1,8 @@
 """The command line of `tools/press`: its subcommands, and what they share.
 
 A subcommand is a module with `add(subparsers)`, which makes its parser by `added`, and `run(arguments)`, which gives its status:
-0 all is well, 1 a run closed with another answer than 0 or the output could not be written, 2 wrong usage or a file that cannot
-be read. What goes wrong is told by exceptions, which `main` turns into one line on standard error and a status.
+0 all is well, 1 a run closed with another answer than 0, its sum was refused or the output could not be written, 2 wrong usage or a
+file that cannot be read. What goes wrong is told by exceptions, which `main` turns into one line on standard error and a status.
 """
 import argparse
 import contextlib
@@ -16,7 +16,7 @@ import chemstation
 from chemstation.answers import kind_number, kinds_in_words
 from press import advice
 
-SUBCOMMANDS = ["show", "table", "plot", "volume"]
+SUBCOMMANDS = ["show", "table", "sum", "plot", "volume"]
 KINDS_HELP = f"the kind of the run, by number or name: {kinds_in_words()}; the file does not say it"
 STATUS_HELP = (
     "Status: 0 the run closed with 0; 1 another answer closed it (docs/ANSWERS.md), or the output could not be written; "
@@ -121,7 +121,7 @@ def output(path):
 def parser():
     whole = argparse.ArgumentParser(
         prog="press",
-        description="Reads runs of Agilent ChemStation, by the proved library: headers, tables, pictures and volumes of runs.",
+        description="Reads runs of Agilent ChemStation, by the proved library: headers, tables, sums, pictures and volumes of runs.",
         epilog=f"KIND is {KINDS_HELP}. `press SUBCOMMAND --help` has the rest.",
     )
     subparsers = whole.add_subparsers(metavar="SUBCOMMAND", required=True)

@@ -19,14 +19,16 @@ from concurrent.futures import FIRST_COMPLETED, wait
 from pathlib import Path
 from typing import NamedTuple, Optional
 
+from chemstation.answers import SUMMED
 from press.cli import GiveUp
 
 ROOT = Path(__file__).resolve().parents[2]
 BLOCK = 1 << 20  # bytes
-TAIL = 300  # bytes; the last two lines of a log are shorter
+TAIL = 300  # bytes; the last three lines of a log are shorter
 ANSWERS = [*map(str, range(15)), "m"]  # those that close a log
 HEADER = re.compile(rb"h \d+ \d+\n")
-CLOSING = re.compile(rb"(?:^|\n)(?:r ([0-9A-F]{16}|nan) [^\n]*\n)?(e (\d+|m) (0|[1-9]\d*))\n\Z")
+SUM = rb"t (-|0|-?[1-9]\d{0,18})"
+CLOSING = re.compile(rb"(?:^|\n)(?:r ([0-9A-F]{16}|nan) [^\n]*\n)?(?:" + SUM + rb"\n)?(e (\d+|m) (0|[1-9]\d*))\n\Z")
 
 
 class Failed(Exception):
@@ -186,19 +188,22 @@ class Log(NamedTuple):
     answer: str
     records: int
     last_time: Optional[float]  # of the last record, in minutes
+    total: Optional[str]  # of the unscaled values, or '-' where it is refused; None where the log has no line for it
     sum: Sum
 
 
 class Ends:
-    """The first and the last bytes of a log, and its lines."""
+    """The first and the last bytes of a log, and how many lines it has in all, of records and of sums."""
 
     def __init__(self):
-        self.head, self.tail, self.lines = b"", b"", 0
+        self.head, self.tail, self.lines, self.records, self.sums = b"", b"", 0, 0, 0
 
     def take(self, block):
         self.head = (self.head + block[:TAIL])[:TAIL]
         self.tail = (self.tail + block[-TAIL:])[-TAIL:]
         self.lines += block.count(b"\n")
+        self.records += block.count(b"r")  # no other line has this letter
+        self.sums += block.count(b"t")
 
 
 def minutes(bits):
@@ -206,20 +211,40 @@ def minutes(bits):
     return float("nan") if bits == b"nan" else struct.unpack(">d", bytes.fromhex(bits.decode()))[0]
 
 
-def read_log(path):
-    """A log that is whole. Its lines are counted too, since a full disk may cut a log anywhere."""
+def sum_fault(ends, total, due):
+    """What is wrong with the line t of a log, where one is due or none is."""
+    if due and total is None:
+        return "no line t with a sum stands before it"
+    if ends.sums > due:
+        return "a line t stands where none is due"
+    whole = total in (None, b"-") or -(2**63) <= int(total) < 2**63
+    return "" if whole else f"{total.decode()} is no sum in 64 bits"
+
+
+def lines_fault(ends, header, kind, closing):
+    """What is wrong with the lines of a log of this kind that has a closing line; empty where it is whole."""
+    _, total, last, _, records = closing.groups()
+    count, due = int(records), bool(header) and kind in SUMMED
+    whole = (ends.lines, ends.records) == (count + 2 + due, count) if header else ends.head == last + b"\n" and count == 0
+    fault = sum_fault(ends, total, due)
+    lines = f"{ends.lines} lines {'with' if header else 'without'} a header line, closed by '{last.decode()}'"
+    return "" if whole and not fault else f"{lines}; {fault}" if fault else lines
+
+
+def read_log(path, kind):
+    """A log of a run of this kind that is whole. Its lines are counted too, since a full disk may cut a log anywhere."""
     ends = Ends()
     checksum = summed(path, ends.take)
     closing, header = CLOSING.search(ends.tail), HEADER.match(ends.head)
-    if not closing or closing[3].decode() not in ANSWERS:
+    if not closing or closing[4].decode() not in ANSWERS:
         raise Failed("the log has no closing line: the program stopped")
-    time, last, answer, records = closing.groups()
-    whole = ends.lines == int(records) + 2 if header else ends.head == last + b"\n" and records == b"0"
-    if not whole:
-        without = "with" if header else "without"
-        raise Failed(f"the log is not whole: {ends.lines} lines {without} a header line, closed by '{last.decode()}'")
+    fault = lines_fault(ends, header, kind, closing)
+    if fault:
+        raise Failed(f"the log is not whole: {fault}")
+    time, total, last, answer, records = closing.groups()
     first = ends.head.split(b"\n")[0]
-    return Log(first.decode(), last.decode(), answer.decode(), int(records), minutes(time) if time else None, checksum)
+    return Log(first.decode(), last.decode(), answer.decode(), int(records), minutes(time) if time else None,
+               total and total.decode(), checksum)
 
 
 class Made(NamedTuple):
@@ -253,6 +278,6 @@ def make_log(children, program, kind, file, path):
     except OSError as error:
         raise Failed(f"its log cannot be made: {error.strerror}") from None
     try:
-        return Made(run, read_log(path), said)
+        return Made(run, read_log(path, kind), said)
     except Failed as error:
         raise Failed(str(error), said) from None

@@ -138,7 +138,7 @@ def source_of_run(arguments):
 
 def source_of_stream(stream, name, kind):
     source = source_of_log(stream, name, kind)
-    source.advice = advice.of_edition(kind, source.header[0]) if source.header else []
+    source.advice = (advice.of_edition(kind, source.header[0]) if source.header else []) + source.advice
     return source
 
 

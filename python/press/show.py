@@ -1,10 +1,13 @@
 """`press show`: what a run's header says, and how far its records go."""
+import chemstation
+from chemstation.answers import SUMMED
 from press import advice, cli
 
 HELP = "what a header says"
 DESCRIPTION = (
-    "Prints what the header of a run says, each field by its name, and how many records the run has, from when to when, and what closed "
-    "it. Times are in minutes. Control characters in a text are written as \\x and two digits."
+    "Prints what the header of a run says, each field by its name, and how many records the run has, from when to when, the sum of their "
+    "unscaled intensities (not for array; - where it is refused), and what closed it. Times are in minutes. Control characters in a text "
+    "are written as \\x and two digits."
 )
 
 
@@ -38,11 +41,21 @@ def header(run):
     ]
 
 
+def total(columns):
+    """The sum of the unscaled intensities, as a text."""
+    try:
+        return str(columns.sum())
+    except chemstation.Refused as error:
+        return f"-, {error.number}: {error.words}"
+
+
 def reach(columns):
     """How far the records go, as such pairs."""
     pairs = [("records", str(columns.count))]
     if columns.count:
         pairs += [("first time", minutes(columns.time[0])), ("last time", minutes(columns.time[-1]))]
+    if columns.kind in SUMMED:
+        pairs += [("sum", total(columns))]
     pairs += [("closed with", f"{columns.closing.number}: {columns.closing.words}")]
     if columns.left and columns.left.last_scan:
         pairs += [("unread", f"{columns.left.last_scan} bytes of the last scan")]

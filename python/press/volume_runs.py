@@ -78,7 +78,7 @@ class Folder:
         log, text = self.file(line, ".log"), self.file(line, ".made")
         try:
             beside = os.fsdecode(text.read_bytes())
-            run, whole = logs.summed(line.path), logs.read_log(log)
+            run, whole = logs.summed(line.path), logs.read_log(log, line.kind)
             begin = made_of(line, run, logs.summed(self.program), whole.sum)
         except (logs.Failed, OSError):
             return None
@@ -114,7 +114,7 @@ class Folder:
 
     def result(self, line, made, kept):
         left = [sentence for said in made.said.splitlines() for sentence in advice.of_left(said)]
-        look = advice.of_log(line.kind, line.name, made.run.size, made.log.first, made.log.last) + left
+        look = advice.of_log(line.kind, line.name, made.run.size, made.log.first, made.log.last, made.log.total) + left
         if made.log.last_time is not None:
             look += of_times(line, made.log)
         undrawn = self.draw(line) if self.plots else []

@@ -3,7 +3,8 @@
 
 Where the oracle marks a case as outside the comparison, the lines before the mark are still the original's, and the
 rest is held to the model. Prints the first difference, saves its case and ends with status 1; else prints counts.
-Without a program the model itself is compared with the original.
+A log program has a line more than the original, the sum `t`: that line is held to the request's words (foot.py), the h, r
+and e lines to the original. Without a program the model itself is compared with the original.
 """
 
 import argparse
@@ -21,6 +22,7 @@ import time
 from pathlib import Path
 
 sys.dont_write_bytecode = True
+import foot
 import generate
 import model
 
@@ -131,6 +133,7 @@ class Comparison:
         self.answers = collections.Counter()
         self.families = collections.Counter()
         self.counts = collections.Counter()
+        self.sums = collections.Counter()
         self.records = 0
 
     def check(self, mode, names, cases, subject):
@@ -138,12 +141,16 @@ class Comparison:
         oracle = in_batch([self.options.oracle, 'batch'], mode, cases)
         for name, case, text, answered in zip(names, cases, oracle, subject(cases)):
             due = expected(mode, case, text, self.outside)
+            closing, records = due[-1], max(len(due) - 2, 0)
+            if mode == 'log' and self.options.log:
+                due = foot.footed(case, due)
+                self.sums.update(line if line == 't -' else 't' for line in due[-2:] if line[0] == 't')
             difference = first_difference(due, answered.splitlines())
             if difference:
                 self.fail(mode, name, case, difference)
             if mode == 'log':
-                self.answers[chr(case[0]) if case[:1].isdigit() else '-', due[-1].split()[1]] += 1
-                self.records += len(due) - 2 if len(due) > 1 else 0
+                self.answers[chr(case[0]) if case[:1].isdigit() else '-', closing.split()[1]] += 1
+                self.records += records
         self.counts[mode] += len(cases)
 
     def fail(self, mode, name, case, difference):
@@ -158,6 +165,8 @@ class Comparison:
     def report(self):
         print('compared: ' + ', '.join('%d %s' % (n, what) for what, n in self.counts.items()))
         print('records in logs: %d' % self.records)
+        if self.sums:
+            print('sums, held to the request: %d, and %d refused' % (self.sums['t'], self.sums['t -']))
         print('families: ' + ', '.join('%s %d' % pair for pair in sorted(self.families.items())))
         print('outside the original\'s domain, held to the model: %d' % sum(self.outside.values()))
         for why, n in sorted(self.outside.items()):

@@ -162,12 +162,17 @@ EDITS = [
 ]
 
 
-def misread(source, old, new):
+def edited(source, old, new):
+    """The module that the edit makes of a model's source."""
     if source.count(old) != 1:
         sys.exit('stands %d times in the model: %s' % (source.count(old), old))
     module = types.ModuleType('misread')
     exec(compile(source.replace(old, new), 'misread', 'exec'), module.__dict__)
-    return module.MODES
+    return module
+
+
+def misread(source, old, new):
+    return edited(source, old, new).MODES
 
 
 def answered(mode, case):

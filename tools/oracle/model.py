@@ -2,6 +2,7 @@
 """A plain reader of ChemStation runs, written from document 01 alone.
 
 It answers where the original can't be asked (outside the comparison) and tells a wrong driver from a wrong program.
+Its log has no line `t`, as the original's: foot.py adds that.
 
 usage: model.py log|whole|single|header < CASE      a case is a kind digit, then the file
        model.py batch < FRAMES                      frames as the oracle's (README.md)

@@ -1,5 +1,5 @@
 #!/usr/bin/env python3
-"""The oracle and the model on document 01's printed run and specimens.
+"""The oracle and the model on document 01's printed run and specimens, and the model of the log's foot on the printed run.
 
 usage: selftest.py [ORACLE]        the built oracle; target/oracle/oracle if not given
 """
@@ -10,6 +10,7 @@ import sys
 from pathlib import Path
 
 sys.dont_write_bytecode = True
+import foot
 import model
 
 PRINTED = '''h 2 512
@@ -101,6 +102,7 @@ def main():
 
     expect('printed run, oracle', asked('log', headed(1, '00050002')), PRINTED)
     expect('printed run, model', model.log(headed(1, '00050002')), PRINTED)
+    expect('printed run with its sum', foot.log(headed(1, '00050002')), PRINTED.replace('e 0', 't 17\ne 0'))
     for i, (look, case, due) in enumerate(SPECIMENS):
         for name, text in (('oracle', asked('log', case)), ('model', model.log(case))):
             expect('specimen %d, %s' % (i, name), look(text), due)
@@ -108,7 +110,7 @@ def main():
         case = bytearray(headed(1, edition=edition, size=4608))
         case[1 + at:1 + at + len(text)] = text
         expect('date of edition %d' % edition, asked('date', bytes(case)).strip(), due)
-    print('%d checks, %d failed' % (2 + 2 * len(SPECIMENS) + len(DATES), failed))
+    print('%d checks, %d failed' % (3 + 2 * len(SPECIMENS) + len(DATES), failed))
     return 1 if failed else 0
 
 

@@ -1,8 +1,9 @@
--- What Open, Fetch a text and Fill columns promise, as an answer by its number and lent memory.
-use mathlib.Core.Path.{_≡_, refl, sym, ap, ap₂, _∙_}
+-- What Open, Fetch a text, Fill columns and a sum promise, as an answer by its number and lent memory.
+use mathlib.Core.Path.{_≡_, refl, sym, ap, ap₂, _∙_, subst}
 use mathlib.Core.Bool.{Bool}
 use mathlib.Core.List.{List, [], _∷_}
 use Prim.Native.Nat.{ℕ}
+use lib.IntN.{ℤ}
 use Rattle.rules.specs.Rule.{Read, got, stops, read, mapRead}
 use Rattle.rules.proofs.Laws.{got≢stops}
 use Rattle.error.specs.Number.{stopOf, stopNumber, closingNumber}
@@ -18,10 +19,11 @@ use Rattle.opening.specs.declared.Opening.{Opening}
 use Rattle.opening.specs.declared.Opening.the-variants as opening
 use Rattle.opening.specs.declared.OpenedRun.{OpenedRun}
 use Rattle.reader.specs.declared.Filled.{Filled}
+use Rattle.sums.specs.declared.Total.{Total}
 use Rattle.states.specs.declared.Kept.the-variants as kept
 use Rattle.states.specs.State.{numbersOf, countsOf, stateOf}
 use Rattle.chemread.specs.Answers.{outcomeNumber}
-use Rattle.chemread.specs.Lent.{Run, openedAs, OpensInto, sizeAfter, FetchesInto, Filling, FillsInto}
+use Rattle.chemread.specs.Lent.{Run, openedAs, OpensInto, sizeAfter, FetchesInto, Filling, FillsInto, SumsInto}
 
 -- ---- Open
 
@@ -72,3 +74,9 @@ fills-into st s last r old new e f = record {
 pub fills-nothing : (s : List ℕ) (last : Bool) (old : Filling) → stateOf (old .numbers) (old .counts) ≡ kept.NoKind →
     FillsInto s last 1 (record { entry = old; exit = record { numbers = old .numbers; counts = old .counts; columns = old .columns; given = 0 ∷ 0 ∷ [] } })
 fills-nothing s last old e = record { answer = rw e; memory = rw e }
+
+-- ---- the sum of a column
+
+-- the same total, said otherwise
+pub sums-into : {s t : Total} {r : ℕ} {old new : ℤ} → s ≡ t → SumsInto s r old new → SumsInto t r old new
+sums-into {r = r} {old} {new} e i = subst (λ x. SumsInto x r old new) e i

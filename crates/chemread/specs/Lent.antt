@@ -1,9 +1,10 @@
--- What the lent memory holds after each call, by the definitions of Open, Fetch a text and Fill columns.
+-- What the lent memory holds after each call, by the definitions of Open, Fetch a text, Fill columns and totals.
 use mathlib.Core.Path.{_≡_}
 use mathlib.Core.Bool.{Bool}
 use mathlib.Core.List.{List, [], _∷_}
 use Prim.Native.Nat.{ℕ}
 use lib.ListN.{length}
+use lib.IntN.{ℤ}
 use lib.Ieee.{Float}
 use denote.Ref.{now}
 use denote.Triple.Both.{Both}
@@ -20,7 +21,9 @@ use Rattle.states.specs.declared.Kept.{Kept}
 use Rattle.states.specs.declared.Kept.the-variants as kept
 use Rattle.states.specs.State.{numbersOf, countsOf, stateOf}
 use Rattle.error.specs.Number.{closingNumber}
-use Rattle.chemread.specs.Answers.{readNumber, outcomeNumber}
+use Rattle.sums.specs.declared.Total.{Total}
+use Rattle.sums.specs.declared.Total.the-variants.{Absent, Amount, Refused}
+use Rattle.chemread.specs.Answers.{readNumber, outcomeNumber, totalNumber}
 
 -- ---- Open
 
@@ -127,3 +130,16 @@ keptIn f = stateOf (f .numbers) (f .counts)
 pub record FillsInto (s : List ℕ) (last : Bool) (r : ℕ) (m : Both Filling Filling) : Type 0 where
   pub answer : r ≡ fillingNumber (keptIn (m .entry)) s last (m .entry .columns)
   pub memory : m .exit ≡ fillingAfter (keptIn (m .entry)) s last (m .entry)
+
+-- ---- the sum of a column
+
+-- a sum that was given; else nothing is written
+abbrev pub sumAfter : Total → ℤ → ℤ
+sumAfter Absent old = old
+sumAfter (Amount z) old = z
+sumAfter (Refused c) old = old
+
+-- the answer r and the lent sum before and after, by what the values add up to on top of it
+pub record SumsInto (t : Total) (r : ℕ) (old new : ℤ) : Type 0 where
+  pub answer : r ≡ totalNumber t
+  pub memory : new ≡ sumAfter t old

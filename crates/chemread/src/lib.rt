@@ -1,4 +1,4 @@
-// Open, Fetch a text and Fill columns for C: include/chemstation.h declares them.
+// Open, Fetch a text, Fill columns and the sum of a column for C: include/chemstation.h declares them.
 use error::Refusal;
 use error::Stopped;
 use fetch::Fetched;
@@ -6,6 +6,7 @@ use metadata::ChemstationMetadata;
 use opening::Opening;
 use reader::Closing;
 use states::Kept;
+use sums::Total;
 ghost use mathlib.Core.Path.{_≡_};
 ghost use mathlib.Core.Bool.{true};
 ghost use Rattle.rules.specs.Rule.{read};
@@ -13,7 +14,9 @@ ghost use Rattle.error.specs.Number.{stopOf, stopNumber, closingNumber};
 ghost use Rattle.metadata.specs.Metadata.{openRule};
 ghost use Rattle.fetch.specs.Fetch.{fetchRule};
 ghost use Rattle.reader.specs.Columns.{lentColumns, closingOf};
-ghost use Rattle.chemread.specs.Lent.{headerOf, correctionsOf, lentRun, OpensInto, lentText, FetchesInto, lentFilling, FillsInto};
+ghost use Rattle.chemread.specs.Lent.{headerOf, correctionsOf, lentRun, OpensInto, lentText, FetchesInto, lentFilling, FillsInto, SumsInto};
+ghost use Rattle.sums.specs.Sums.{totalFrom};
+ghost use Rattle.sums.specs.declared.Total.the-variants.{Amount};
 
 // ---- answers as numbers
 
@@ -21,7 +24,7 @@ const MORE_BYTES: u8 = 101;
 
 const FULL: u8 = 102;
 
-// a header was opened, or a text fetched
+// a header was opened, a text fetched, or a column added up
 const GIVEN: u8 = 103;
 
 // The number of an answer without an outcome.
@@ -159,5 +162,23 @@ pub extern "C" fn chemstation_fill(
             let closing = f.closing;
             closing_number(closing)
         }
+    }
+}
+
+// ---- the sum of a column
+
+// Adds the values of a column to a sum, one behind the other. A refusal writes nothing.
+#[no_mangle]
+pub extern "C" fn chemstation_sum(values: &[f64], sum: &mut i64) -> u8
+    ensures { λ r. ⌜ SumsInto (totalFrom (Amount (now (sum .entry))) (now (values .entry))) r (now (sum .entry)) (now (sum .exit)) ⌝ }
+{
+    let before = *sum;
+    match sums::total_from(Total::Amount(before), values) {
+        Total::Amount(n) => {
+            *sum = n;
+            GIVEN
+        }
+        Total::Absent => GIVEN,
+        Total::Refused(r) => error::number_of(r),
     }
 }

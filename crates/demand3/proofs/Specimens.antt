@@ -22,13 +22,8 @@ use Rattle.mwd.specs.Mwd.{mwdPoint, mwdRule}
 use Rattle.dad.specs.Dad.{dadPoint, dadScan}
 use Rattle.uv.specs.Uv.{uvPoint, uvScan}
 use Rattle.opening.specs.Opening.{sameBytes, begins}
+use Rattle.opening.proofs.Marks.{same-is}
 use Rattle.demand3.specs.Specimens.{Reply, sized, refusal, gave, Specimen, answered, specimens, AllGive}
-
-same-is : (l m : List ℕ) → T (sameBytes l m) → l ≡ m
-same-is [] [] t = refl
-same-is [] (b ∷ bs) t = absurd t
-same-is (a ∷ r) [] t = absurd t
-same-is (a ∷ r) (b ∷ bs) t = let p = and-yes (eqb a b) (sameBytes r bs) t in ap₂ (λ x xs. x ∷ xs) (eqb→eq a b (p .0)) (same-is r bs (p .1))
 
 abbrev sameReply : Reply → Reply → Bool
 sameReply (sized m) = elim [ sized n ↦ eqb m n | refusal n ↦ false | gave r n ↦ false ]

@@ -9,7 +9,7 @@ use Rattle.whole.specs.Whole.{Whole, wholeRule, atOpen, AllExact}
 use Rattle.opening.specs.Opening.{startRule}
 
 -- 'the value that a stream's rules give, worked from the bytes alone in whole numbers never rounded, 0 at Open'
-abbrev wholeStart : ℕ → Rule Whole
+abbrev pub wholeStart : ℕ → Rule Whole
 wholeStart kind = mapRule atOpen (startRule kind)
 
 pub record Demand3 (kind : ℕ) (cs : List Call) (F G : List ℕ) : Type 0 where

@@ -14,7 +14,7 @@ use Rattle.agilent.specs.Header.{sizeRule}
 use Rattle.chemstation.specs.Next.{rule}
 use Rattle.streams.specs.declared.State.{State}
 use Rattle.streams.specs.declared.Record.{Record}
-use Rattle.whole.specs.Whole.{unscaledOf}
+use Rattle.streams.specs.Next.{unscaledOf}
 use Rattle.opening.specs.Opening.{startRule}
 
 pub data Operation : Type 0 where

@@ -1,3 +1,4 @@
 pub mod Puts
 pub mod Digits
 mod Words
+mod Signs

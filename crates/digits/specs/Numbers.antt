@@ -3,6 +3,7 @@ use Prim.Native.Nat.{ℕ, zero, suc, _+_, _-_, _/_, _%_}
 use mathlib.Core.Bool.{cond, _&&_}
 use mathlib.Core.List.{List, [], _∷_, _++_}
 use lib.Dec.{leb, ltb}
+use lib.IntN.{ℤ, pos, negsuc}
 
 -- ---- the kind
 
@@ -41,3 +42,8 @@ field l sep = l ++ (sep ∷ [])
 
 abbrev pub number : ℕ → ℕ → List ℕ
 number n sep = field (decimal n) sep
+
+-- a number with a sign: `-` before the size of a negative one
+abbrev pub signedNumber : ℤ → ℕ → List ℕ
+signedNumber (pos n) sep = number n sep
+signedNumber (negsuc n) sep = 45 ∷ number (suc n) sep

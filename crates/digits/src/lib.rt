@@ -3,9 +3,10 @@ ghost use Prim.Native.Nat.{_+_, _^_, _≤_, _<_};
 ghost use mathlib.Core.Path.{_≡_};
 ghost use mathlib.Core.List.{[], _∷_};
 ghost use lib.ListN.{length};
+ghost use lib.IntN.{natAbs};
 ghost use Rattle.common.specs.Bytes.{le};
 ghost use Rattle.digits.specs.Put.{Put};
-ghost use Rattle.digits.specs.Numbers.{kindOf, digit as digitOf, digits, bytesOf, places, number};
+ghost use Rattle.digits.specs.Numbers.{kindOf, digit as digitOf, digits, bytesOf, places, number, signedNumber};
 
 // The kind that a digit names, or 0, which is no kind.
 pub fn kind_of(digit: u8) -> u8
@@ -75,6 +76,30 @@ pub fn put_number(out: &mut [u8], at: usize, n: u64, sep: u8) -> usize
     let k = count_places(n);
     let a = put_digits(out, at, 10, k, n);
     put_byte(out, a, sep)
+}
+
+// The size of a number with a sign. That of the least does not fit with it: one is added behind the cast.
+fn size_of(n: i64) -> u64
+    ensures { λ r. ⌜ r ≡ natAbs n ⌝ }
+{
+    if n >= 0 {
+        return n as u64;
+    }
+    (-1 - n) as u64 + 1
+}
+
+// A number with a sign in decimal, and what ends its field.
+pub fn put_signed(out: &mut [u8], at: usize, n: i64, sep: u8) -> usize
+    requires { ⌜ at + 22 ≤ length (now out) ⌝ }
+    ensures { λ r. ⌜ Put (signedNumber n sep) at (now (out .entry)) r (now (out .exit)) ⌝ }
+    ensures { λ r. ⌜ r ≤ at + 22 ⌝ }
+{
+    let size = size_of(n);
+    if n >= 0 {
+        return put_number(out, at, size, sep);
+    }
+    let a = put_byte(out, at, b'-');
+    put_number(out, a, size, sep)
 }
 
 // Eight hexadecimal digits as the bytes of a word, the first in its lowest. A log is mostly such digits, so all are made at

@@ -4,7 +4,7 @@ use Rattle.rules.specs.Rule.{Stop, refused, finished, moreBytes}
 use Rattle.rules.specs.Calls.{Answer, full, stopped}
 use Rattle.error.specs.declared.Refusal.{Refusal}
 use Rattle.error.specs.declared.Refusal.the-variants.{UnknownKind, SizeWordZero, HeaderTooSmall, HeaderTooLarge, UnknownEdition, BelowEditionMinimum, TextTooLong, NotUtf8}
-use Rattle.error.specs.declared.Refusal.the-variants.{ArrayHeaderTooSmall, TooManyScans, MsCountTooSmall, UvStartAboveEnd, UvStepZero, Incomplete, LentLength, UnknownText}
+use Rattle.error.specs.declared.Refusal.the-variants.{ArrayHeaderTooSmall, TooManyScans, MsCountTooSmall, UvStartAboveEnd, UvStepZero, Incomplete, LentLength, UnknownText, SumOutOfRange}
 use Rattle.error.specs.declared.Stopped.{Stopped}
 use Rattle.error.specs.declared.Stopped.the-variants.{Refused, Finished, MoreBytes}
 
@@ -25,6 +25,8 @@ numberOf UvStepZero = 13
 numberOf Incomplete = 14
 numberOf LentLength = 15
 numberOf UnknownText = 16
+-- request 1: 'Answers: 17'
+numberOf SumOutOfRange = 17
 
 abbrev pub stopOf : Stopped → Stop
 stopOf (Refused r) = refused (numberOf r)

@@ -1,4 +1,4 @@
-// Why there is no record and no header: the answers that every operation shares, and document 01's numbers for them.
+// Why there is no record and no header: the answers that every operation shares, and the papers' numbers for them.
 ghost use mathlib.Core.Path.{_≡_};
 ghost use Rattle.rules.specs.Rule.{lacks};
 ghost use mathlib.Core.List.{[]};
@@ -24,6 +24,8 @@ pub enum Refusal {
     // lent memory: a buffer that is too small, or columns of unequal lengths
     LentLength,
     UnknownText,
+    // a value that is no whole number below 2^53 in size, or a sum on the way outside 64 bits
+    SumOutOfRange,
 }
 
 // The answers without an outcome.
@@ -33,7 +35,7 @@ pub enum Stopped {
     MoreBytes,
 }
 
-// Document 01's number of a refusal.
+// The number of a refusal: document 01's, 17 the request's of a sum.
 pub fn number_of(r: Refusal) -> u8
     ensures { λ n. ⌜ n ≡ numberOf r ⌝ }
 {
@@ -54,6 +56,7 @@ pub fn number_of(r: Refusal) -> u8
         Refusal::Incomplete => 14,
         Refusal::LentLength => 15,
         Refusal::UnknownText => 16,
+        Refusal::SumOutOfRange => 17,
     }
 }
 

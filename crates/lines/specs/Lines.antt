@@ -1,4 +1,4 @@
--- The lines of a log: document 01, 'The log program'. A line is a letter and fields; a space ends a field, a line feed the last.
+-- The lines of a log: document 01, 'The log program', and request 1. A line is a letter and fields; a space ends a field, a line feed the last.
 use Prim.Native.Nat.{ℕ}
 use mathlib.Core.List.{List, [], _∷_, _++_}
 use lib.Ieee.{Float}
@@ -8,7 +8,9 @@ use Rattle.floats.specs.declared.Bits.{Bits}
 use Rattle.floats.specs.declared.Bits.the-variants.{Nan, Pattern}
 use Rattle.streams.specs.declared.Record.{Record}
 use Rattle.streams.specs.declared.Record.the-variants.{Trace, Mass, Spectrum}
-use Rattle.digits.specs.Numbers.{digits, field, number}
+use Rattle.sums.specs.declared.Total.{Total}
+use Rattle.sums.specs.declared.Total.the-variants.{Absent, Amount, Refused}
+use Rattle.digits.specs.Numbers.{digits, field, number, signedNumber}
 
 -- 'as 16 hexadecimal digits of the bits, or `nan`'
 unfoldable pub bitsText : Bits → List ℕ
@@ -36,6 +38,12 @@ recordLine (Spectrum t w u s) = pointLine t w u s
 -- 'h: edition, size, decimal'
 abbrev pub headerLine : ℕ → ℕ → List ℕ
 headerLine edition size = 104 ∷ 32 ∷ (number edition 32 ++ number size 10)
+
+-- request 1: '`t` and a decimal number'; 'where the sum is refused, the line reads `t -`'; no line where nothing was added up
+abbrev pub totalLine : Total → List ℕ
+totalLine Absent = []
+totalLine (Amount z) = 116 ∷ 32 ∷ signedNumber z 10
+totalLine (Refused c) = 116 ∷ 32 ∷ field (45 ∷ []) 10
 
 -- *finished* is printed 0, a refusal as its number, *more bytes* as `m`
 unfoldable pub answerText : Stop → List ℕ

@@ -2,6 +2,7 @@
 use error::Stopped;
 use floats::Bits;
 use streams::Record;
+use sums::Total;
 ghost use Prim.Native.Nat.{_+_, _≤_};
 ghost use mathlib.Core.Path.{_≡_};
 ghost use mathlib.Core.List.{[], _∷_};
@@ -9,7 +10,7 @@ ghost use lib.ListN.{length};
 ghost use Rattle.error.specs.Number.{stopOf};
 ghost use Rattle.digits.specs.Put.{Put};
 ghost use Rattle.lines.specs.Left.{behindText, moreText, scanText, leftLine, tooLongLine};
-ghost use Rattle.lines.specs.Lines.{doubleText, timeText, valuesText, pointLine, recordLine, headerLine, answerText, endLine};
+ghost use Rattle.lines.specs.Lines.{doubleText, timeText, valuesText, pointLine, recordLine, headerLine, totalLine, answerText, endLine};
 
 // A double's bits, or nan, and what ends the field.
 pub fn put_double(out: &mut [u8], at: usize, x: f64, sep: u8) -> usize
@@ -111,6 +112,26 @@ pub fn put_header(out: &mut [u8], at: usize, edition: u32, size: usize) -> usize
     let a = put_letter(out, at, b'h');
     let b = digits::put_number(out, a, edition as u64, b' ');
     digits::put_number(out, b, size as u64, b'\n')
+}
+
+// The line of a total, if there is one.
+pub fn put_total(out: &mut [u8], at: usize, t: Total) -> usize
+    requires { ⌜ at + 24 ≤ length (now out) ⌝ }
+    ensures { λ r. ⌜ Put (totalLine t) at (now (out .entry)) r (now (out .exit)) ⌝ }
+    ensures { λ r. ⌜ r ≤ at + 24 ⌝ }
+{
+    match t {
+        Total::Absent => at,
+        Total::Amount(n) => {
+            let a = put_letter(out, at, b't');
+            digits::put_signed(out, a, n, b'\n')
+        }
+        Total::Refused(_) => {
+            let a = put_letter(out, at, b't');
+            let b = digits::put_byte(out, a, b'-');
+            digits::put_byte(out, b, b'\n')
+        }
+    }
 }
 
 // The closing answer, and what ends its field.

@@ -1,7 +1,7 @@
 -- However the bytes come in, a rule reads what it reads through the buffer; and the log is one.
 use mathlib.Core.Path.{_≡_, refl, sym, ap, ap₂, _∙_, subst, subst₂}
 use mathlib.Core.Bool.{Bool, true, false, false≢true}
-use mathlib.Core.List.{List, [], _∷_, _++_, append-assoc, append-nil}
+use mathlib.Core.List.{List, [], _∷_, _++_, append-nil}
 use Prim.Native.Nat.{ℕ, _+_, _-_, _≤_, _<_}
 use native.Mathlib.Omega.{arith}
 use borrow.Author.Tests.{ltb-true, ltb-false, lt-ltb, le-ltb}
@@ -18,8 +18,9 @@ use Rattle.chemstation.specs.Next.{rule}
 use Rattle.streams.specs.declared.State.{State}
 use Rattle.streams.specs.declared.Record.{Record}
 use Rattle.opening.specs.Opening.{begins}
-use Rattle.lines.specs.Lines.{recordLine, endLine}
-use Rattle.log.specs.Log.{inBuffer, RestOf, record-line, end-line, headerText, LogOf, refused-run, opened-run, OneLog}
+use Rattle.lines.specs.Lines.{endLine}
+use Rattle.log.specs.Runs.{linesOf}
+use Rattle.log.specs.Log.{inBuffer, Reads, one-more, no-more, headerText, firstTotal, footText, LogOf, refused-run, opened-run, Begins, no-header, same-records, OneLog}
 use Rattle.log.proofs.Exists.{there}
 
 -- ---- one reading
@@ -88,42 +89,45 @@ larger-reads size more r bs x h e d =
     subst (λ l. inBuffer more r l ≡ x) (take-append-drop size bs)
     (in-buffer false more r (take size bs) (drop size bs) x (record { held = omega arith; told = λ q. absurd (false≢true q) }) (rw t at e) d))
 
-rest-larger : {size : ℕ} (more : ℕ) {st : State} {bs : List ℕ} {c : ℕ} {z : Stop} {t : List ℕ} → size ≤ more → ¬ (z ≡ moreBytes) → RestOf size st bs c z t → RestOf more st bs c z t
-rest-larger {size} more {st} {bs} h d (record-line {x = x} {n = n} e r) = record-line (larger-reads size more (rule st) bs (got x n) h e (λ q. got≢stops q)) (rest-larger more h d r)
-rest-larger {size} more {st} {bs} h d (end-line {z = z} e) = end-line (larger-reads size more (rule st) bs (stops z) h e (λ q. d cc))
+reads-larger : {size : ℕ} (more : ℕ) {st : State} {bs : List ℕ} {rs : List Record} {z : Stop} → size ≤ more → ¬ (z ≡ moreBytes) → Reads size st bs rs z → Reads more st bs rs z
+reads-larger {size} more {st} {bs} h d (one-more {x = x} {n = n} e r) = one-more (larger-reads size more (rule st) bs (got x n) h e (λ q. got≢stops q)) (reads-larger more h d r)
+reads-larger {size} more {st} {bs} h d (no-more {z = z} e) = no-more (larger-reads size more (rule st) bs (stops z) h e (λ q. d cc))
 
 larger : (size more kind : ℕ) (F : List ℕ) (z : Stop) (t : List ℕ) → size ≤ more → LogOf size kind F z t → ¬ (z ≡ moreBytes) → LogOf more kind F z t
 larger size more kind F z t h (refused-run e) d = refused-run (larger-reads size more (openRule kind) F (stops z) h e (λ q. d cc))
-larger size more kind F z t h (opened-run {h = i} {n = n} e r) d = opened-run (larger-reads size more (openRule kind) F (got i n) h e (λ q. got≢stops q)) (rest-larger more h d r)
+larger size more kind F z t h (opened-run {h = i} {n = n} e r) d = opened-run (larger-reads size more (openRule kind) F (got i n) h e (λ q. got≢stops q)) (reads-larger more h d r)
 
 -- ---- one log only
 
--- a log where the rule gives a record begins with its line
-pub rest-step : {size : ℕ} {cur : State} {left : List ℕ} {c : ℕ} {z : Stop} {u : List ℕ} (x : Item State Record) (n : ℕ) → RestOf size cur left c z u → inBuffer size (rule cur) left ≡ got x n →
-    (v : List ℕ) × (u ≡ recordLine (x .shows) ++ v) × RestOf size (x .after) (drop n left) (c + 1) z v
-rest-step {size} {cur} {left} {c} {z} x n (record-line {x = y} {n = m} {t = v} e r) f =
+-- where the rule gives a record, it is the first
+pub reads-step : {size : ℕ} {cur : State} {left : List ℕ} {us : List Record} {z : Stop} (x : Item State Record) (n : ℕ) → Reads size cur left us z → inBuffer size (rule cur) left ≡ got x n →
+    (vs : List Record) × (us ≡ x .shows ∷ vs) × Reads size (x .after) (drop n left) vs z
+reads-step {size} {cur} {left} {us} {z} x n (one-more {x = y} {n = m} {rs = vs} e r) f =
     let same : y ≡ x = cc in
     let many : m ≡ n = cc in
-    (v, ap (λ (w : Item State Record). recordLine (w .shows) ++ v) same, subst₂ (λ (w : Item State Record) k. RestOf size (w .after) (drop k left) (c + 1) z v) same many r)
-rest-step x n (end-line e) f = absurd (got≢stops (sym f ∙ e))
+    (vs, ap (λ (w : Item State Record). w .shows ∷ vs) same, subst₂ (λ (w : Item State Record) k. Reads size (w .after) (drop k left) vs z) same many r)
+reads-step x n (no-more e) f = absurd (got≢stops (sym f ∙ e))
 
--- where it stops, the log is its closing line
-pub rest-stop : {size : ℕ} {cur : State} {left : List ℕ} {c : ℕ} {z : Stop} {u : List ℕ} (y : Stop) → RestOf size cur left c z u → inBuffer size (rule cur) left ≡ stops y → u ≡ endLine y c
-rest-stop y (record-line e r) f = absurd (got≢stops (sym e ∙ f))
-rest-stop {c = c} y (end-line {z = z} e) f = let same : z ≡ y = cc in ap (λ w. endLine w c) same
+-- where it stops, there is none
+pub reads-stop : {size : ℕ} {cur : State} {left : List ℕ} {us : List Record} {z : Stop} (y : Stop) → Reads size cur left us z → inBuffer size (rule cur) left ≡ stops y → (us ≡ []) × (z ≡ y)
+reads-stop y (one-more e r) f = absurd (got≢stops (sym e ∙ f))
+reads-stop y (no-more {z = z} e) f = let same : z ≡ y = cc in (refl, same)
 
-rest-one : {size : ℕ} {st : State} {bs : List ℕ} {c : ℕ} {y z : Stop} {t u : List ℕ} → RestOf size st bs c y t → RestOf size st bs c z u → t ≡ u
-rest-one (record-line {x = x} {n = n} e r) s = let p = rest-step x n s e in ap (λ l. recordLine (x .shows) ++ l) (rest-one r (p .2)) ∙ sym (p .1)
-rest-one (end-line {z = z} e) s = sym (rest-stop z s e)
+reads-one : {size : ℕ} {st : State} {bs : List ℕ} {rs us : List Record} {y z : Stop} → Reads size st bs rs y → Reads size st bs us z → (rs ≡ us) × (y ≡ z)
+reads-one (one-more {x = x} {n = n} e r) s = let p = reads-step x n s e in let q = reads-one r (p .2) in (ap (λ l. x .shows ∷ l) (q .0) ∙ sym (p .1), q .1)
+reads-one (no-more {z = z} e) s = let p = reads-stop z s e in (sym (p .0), sym (p .1))
 
--- a log where the opening gives a header begins with its line
+abbrev pub opened : ℕ → Header → List Record → Stop → List ℕ
+opened kind h rs z = headerText h ++ (linesOf rs ++ footText (firstTotal kind) rs z (length rs))
+
+-- a log where the opening gives a header
 pub log-step : {size kind : ℕ} {F : List ℕ} {z : Stop} {u : List ℕ} (h : Header) (n : ℕ) → LogOf size kind F z u → inBuffer size (openRule kind) F ≡ got h n →
-    (v : List ℕ) × (u ≡ headerText h ++ v) × RestOf size (begins kind h) (drop n F) 0 z v
+    (rs : List Record) × (u ≡ opened kind h rs z) × Reads size (begins kind h) (drop n F) rs z
 log-step h n (refused-run e) f = absurd (got≢stops (sym f ∙ e))
-log-step {size} {kind} {F} {z} h n (opened-run {h = i} {n = m} {t = v} e r) f =
+log-step {size} {kind} {F} {z} h n (opened-run {h = i} {n = m} {rs = rs} e r) f =
     let same : i ≡ h = cc in
     let many : m ≡ n = cc in
-    (v, ap (λ x. headerText x ++ v) same, subst₂ (λ x k. RestOf size (begins kind x) (drop k F) 0 z v) same many r)
+    (rs, ap (λ x. opened kind x rs z) same, subst₂ (λ x k. Reads size (begins kind x) (drop k F) rs z) same many r)
 
 pub log-stop : {size kind : ℕ} {F : List ℕ} {z : Stop} {u : List ℕ} (y : Stop) → LogOf size kind F z u → inBuffer size (openRule kind) F ≡ stops y → u ≡ endLine y 0
 log-stop y (opened-run e r) f = absurd (got≢stops (sym e ∙ f))
@@ -131,30 +135,25 @@ log-stop y (refused-run {z = z} e) f = let same : z ≡ y = cc in ap (λ w. endL
 
 pub one : (size kind : ℕ) (F : List ℕ) (y z : Stop) (t u : List ℕ) → LogOf size kind F y t → LogOf size kind F z u → t ≡ u
 one size kind F y z t u (refused-run e) s = sym (log-stop y s e)
-one size kind F y z t u (opened-run {h = h} {n = n} e r) s = let p = log-step h n s e in ap (λ l. headerText h ++ l) (rest-one r (p .2)) ∙ sym (p .1)
+one size kind F y z t u (opened-run {h = h} {n = n} e r) s = let p = log-step h n s e in let q = reads-one r (p .2) in ap₂ (opened kind h) (q .0) (q .1) ∙ sym (p .1)
 
 -- ---- up to `e m`
 
-abbrev Begun : List ℕ → List ℕ → Type 0
-Begun t u = (v : List ℕ) × (count : ℕ) × (w : List ℕ) × (t ≡ v ++ endLine moreBytes count) × (u ≡ v ++ w)
+reads-begin : {size more : ℕ} {st : State} {bs : List ℕ} {rs us : List Record} {y z : Stop} → size ≤ more → Reads size st bs rs z → Reads more st bs us y → (vs : List Record) × (us ≡ rs ++ vs)
+reads-begin {size} {more} {st} {bs} h (one-more {x = x} {n = n} e r) s =
+    let p = reads-step x n s (larger-reads size more (rule st) bs (got x n) h e (λ q. got≢stops q)) in
+    let b = reads-begin h r (p .2) in
+    (b .0, p .1 ∙ ap (λ l. x .shows ∷ l) (b .1))
+reads-begin {us = us} h (no-more e) s = (us, refl)
 
-begun-behind : (l : List ℕ) {t u t′ u′ : List ℕ} → t′ ≡ l ++ t → u′ ≡ l ++ u → Begun t u → Begun t′ u′
-begun-behind l e f b =
-    (l ++ b .0, b .1, b .2, e ∙ ap (λ x. l ++ x) (b .3) ∙ sym (append-assoc l (b .0) (endLine moreBytes (b .1))), f ∙ ap (λ x. l ++ x) (b .4) ∙ sym (append-assoc l (b .0) (b .2)))
-
-rest-begins : {size more : ℕ} {st : State} {bs : List ℕ} {c : ℕ} {y z : Stop} {t u : List ℕ} → size ≤ more → z ≡ moreBytes → RestOf size st bs c z t → RestOf more st bs c y u → Begun t u
-rest-begins {size} {more} {st} {bs} h m (record-line {x = x} {n = n} e r) s =
-    let p = rest-step x n s (larger-reads size more (rule st) bs (got x n) h e (λ q. got≢stops q)) in
-    begun-behind (recordLine (x .shows)) refl (p .1) (rest-begins h m r (p .2))
-rest-begins {c = c} {u = u} h m (end-line {z = z} e) s = ([], c, u, ap (λ w. endLine w c) m, refl)
-
-log-begins : {size more kind : ℕ} {F : List ℕ} {y z : Stop} {t u : List ℕ} → size ≤ more → z ≡ moreBytes → LogOf size kind F z t → LogOf more kind F y u → Begun t u
-log-begins {u = u} h m (refused-run e) s = ([], 0, u, ap (λ w. endLine w 0) m, refl)
-log-begins {size} {more} {kind} {F} h m (opened-run {h = i} {n = n} e r) s =
+log-begins : {size more kind : ℕ} {F : List ℕ} {y z : Stop} {t u : List ℕ} → size ≤ more → z ≡ moreBytes → LogOf size kind F z t → LogOf more kind F y u → Begins kind y t u
+log-begins {kind = kind} {y = y} {u = u} h m (refused-run e) s = subst (λ w. Begins kind y (endLine w 0) u) (sym m) (no-header u)
+log-begins {size} {more} {kind} {F} {y} {z} {t} {u} h m (opened-run {h = i} {n = n} {rs = rs} e r) s =
     let p = log-step i n s (larger-reads size more (openRule kind) F (got i n) h e (λ q. got≢stops q)) in
-    begun-behind (headerText i) refl (p .1) (rest-begins h m r (p .2))
+    let b = reads-begin h r (p .2) in
+    subst₂ (Begins kind y) (ap (opened kind i rs) (sym m)) (sym (p .1 ∙ ap (λ l. opened kind i l y) (b .1))) (same-records i rs (b .0))
 
-begins-so : (size more kind : ℕ) (F : List ℕ) (y : Stop) (t u : List ℕ) → size ≤ more → LogOf size kind F moreBytes t → LogOf more kind F y u → Begun t u
+begins-so : (size more kind : ℕ) (F : List ℕ) (y : Stop) (t u : List ℕ) → size ≤ more → LogOf size kind F moreBytes t → LogOf more kind F y u → Begins kind y t u
 begins-so size more kind F y t u h l s = log-begins h refl l s
 
 -- ---- all at hand
@@ -162,13 +161,13 @@ begins-so size more kind F y t u h l s = log-begins h refl l s
 no-wait-reads : {A : Type 0} (size : ℕ) (r : Rule A) (bs : List ℕ) → length bs < size → ¬ (inBuffer size r bs ≡ stops moreBytes)
 no-wait-reads size r bs h e = never-waits r bs (rw (lt-ltb (length bs) size h) at e)
 
-rest-no-wait : {size : ℕ} {st : State} {bs : List ℕ} {c : ℕ} {z : Stop} {t : List ℕ} → length bs < size → RestOf size st bs c z t → ¬ (z ≡ moreBytes)
-rest-no-wait {bs = bs} h (record-line {n = n} e r) q = rest-no-wait (omega (arith, length-drop n bs)) r q
-rest-no-wait {size} {st} {bs} h (end-line e) q = no-wait-reads size (rule st) bs h (e ∙ ap stops q)
+records-no-wait : {size : ℕ} {st : State} {bs : List ℕ} {rs : List Record} {z : Stop} → length bs < size → Reads size st bs rs z → ¬ (z ≡ moreBytes)
+records-no-wait {bs = bs} h (one-more {n = n} e r) q = records-no-wait (omega (arith, length-drop n bs)) r q
+records-no-wait {size} {st} {bs} h (no-more e) q = no-wait-reads size (rule st) bs h (e ∙ ap stops q)
 
 no-wait : (size kind : ℕ) (F : List ℕ) (z : Stop) (t : List ℕ) → length F < size → LogOf size kind F z t → ¬ (z ≡ moreBytes)
 no-wait size kind F z t h (refused-run e) q = no-wait-reads size (openRule kind) F h (e ∙ ap stops q)
-no-wait size kind F z t h (opened-run {n = n} e r) q = rest-no-wait (omega (arith, length-drop n F)) r q
+no-wait size kind F z t h (opened-run {n = n} e r) q = records-no-wait (omega (arith, length-drop n F)) r q
 
 pub one-log : OneLog
 one-log = record { there = there; one = one; larger = larger; begins-so = begins-so; no-wait = no-wait }

@@ -1,5 +1,5 @@
 -- The record loop: what is read and put so far, and what is left to read.
-use mathlib.Core.Path.{_≡_, refl, sym, ap, ap₂, _∙_, subst}
+use mathlib.Core.Path.{_≡_, refl, sym, ap, ap₂, _∙_, subst, subst₂}
 use mathlib.Core.Bool.{Bool, true, false, cond, false≢true}
 use mathlib.Core.List.{List, [], _∷_, _++_, append-assoc, append-nil}
 use Prim.Native.Nat.{ℕ, zero, suc, _+_, _-_, _≤_, _<_}
@@ -22,7 +22,12 @@ use Rattle.digits.specs.Put.{Put}
 use Rattle.lines.specs.Lines.{recordLine}
 use Rattle.reader.specs.Columns.{closingOf}
 use Rattle.reader.specs.declared.Closing.{Closing}
-use Rattle.log.specs.Runs.{linesOf, goOnBy, readInto, logged, LoggedBy}
+use lib.Ieee.{Float}
+use Rattle.tally.specs.Tally.{Tally}
+use Rattle.sums.specs.Sums.{plus, totalFrom}
+use Rattle.sums.specs.declared.Total.{Total}
+use Rattle.streams.specs.Next.{unscaledOf}
+use Rattle.log.specs.Runs.{unscaled, linesOf, goOnBy, readInto, logged, LoggedBy}
 use Rattle.digits.proofs.Puts.{put-as, put-then, put-none}
 
 pub lines-append : (rs ss : List Record) → linesOf (rs ++ ss) ≡ linesOf rs ++ linesOf ss
@@ -124,7 +129,16 @@ read-few (suc most) room last st bs =
 
 -- ---- the loop
 
-module _ (last : Bool) (st : State) (src : List ℕ) (from : ℕ) (old : List ℕ) (at : ℕ) where
+-- the same tally, said otherwise
+pub tally-as : {x y : Float} {f g t : Total} → y ≡ x → g ≡ f → Tally x f t → Tally y g t
+tally-as {t = t} d e a = subst₂ (λ x f. Tally x f t) (sym d) (sym e) a
+
+-- one value more
+total-more : (t : Total) (rs : List Record) (r : Record) → plus (totalFrom t (unscaled rs)) (unscaledOf r) ≡ totalFrom t (unscaled (rs ++ (r ∷ [])))
+total-more t [] r = refl
+total-more t (x ∷ rs) r = total-more (plus t (unscaledOf x)) rs r
+
+module _ (last : Bool) (st : State) (src : List ℕ) (from : ℕ) (old : List ℕ) (at : ℕ) (total : Total) where
   abbrev all : Reading State Record
   all = logged (length old - at) last st (drop from src)
 
@@ -132,7 +146,7 @@ module _ (last : Bool) (st : State) (src : List ℕ) (from : ℕ) (old : List �
   left new cur f a = logged (length new - a) last cur (drop f src)
 
   -- the records read so far, and what is left: together they are all
-  pub record Logging (new : List ℕ) (cur : State) (f a count : ℕ) : Type 0 where
+  pub record Logging (new : List ℕ) (cur : State) (f a count : ℕ) (sum : Total) : Type 0 where
     pub done : List Record
     pub records : all .records ≡ done ++ left new cur f a .records
     pub taken : from + all .consumed ≡ f + left new cur f a .consumed
@@ -142,15 +156,16 @@ module _ (last : Bool) (st : State) (src : List ℕ) (from : ℕ) (old : List �
     pub put : Put (linesOf done) at old a new
     pub counted : count ≡ length done
     pub few : count ≤ a
+    pub added : sum ≡ totalFrom total (unscaled done)
 
-  pub logging-start : from ≤ length src → at ≤ length old → Logging old st from at 0
+  pub logging-start : from ≤ length src → at ≤ length old → Logging old st from at 0 total
   unfolding linesOf
-  logging-start h k = record { done = []; records = refl; taken = refl; state = refl; closing = refl; inside = h; put = put-none k; counted = refl; few = omega arith }
+  logging-start h k = record { done = []; records = refl; taken = refl; state = refl; closing = refl; inside = h; put = put-none k; counted = refl; few = omega arith; added = refl }
 
-  pub logging-more : (new : List ℕ) (cur : State) (f a count : ℕ) (r : Record) (after : State) (k b : ℕ) (next : List ℕ) → Logging new cur f a count → 70 ≤ length new - a →
-      read last (rule cur) (drop f src) ≡ got (record { shows = r; after = after }) k → Put (recordLine r) a new b next → Logging next after (f + k) b (count + 1)
+  pub logging-more : (new : List ℕ) (cur : State) (f a count : ℕ) (sum : Total) (r : Record) (after : State) (k b : ℕ) (next : List ℕ) → Logging new cur f a count sum → 70 ≤ length new - a →
+      read last (rule cur) (drop f src) ≡ got (record { shows = r; after = after }) k → Put (recordLine r) a new b next → Logging next after (f + k) b (count + 1) (plus sum (unscaledOf r))
   unfolding linesOf
-  logging-more new cur f a count r after k b next g h e p =
+  logging-more new cur f a count sum r after k b next g h e p =
       let room : length new - a - length (recordLine r) ≡ length next - b = omega (arith, p .next, p .same, p .fits) in
       let step : left new cur f a ≡ ahead r k (left next after (f + k) b) =
       logged-got (length new - a) last cur (drop f src) h e ∙ ap₂ (λ n l. ahead r k (logged n last after l)) room (drop-drop k f src) in
@@ -164,17 +179,23 @@ module _ (last : Bool) (st : State) (src : List ℕ) (from : ℕ) (old : List �
         put = put-as (ap (λ t. linesOf (g .done) ++ t) (sym (append-nil (recordLine r))) ∙ sym (lines-append (g .done) (r ∷ []))) (put-then (g .put) p);
         counted = ap (λ n. n + 1) (g .counted) ∙ sym (length-append (g .done) (r ∷ []));
         few = omega (arith, g .few, p .next, line-some r);
+        added = ap (λ t. plus t (unscaledOf r)) (g .added) ∙ total-more total (g .done) r;
       }
 
+  -- the same total, said otherwise
+  pub summed : {new : List ℕ} {cur : State} {f a count : ℕ} {s t : Total} → s ≡ t → Logging new cur f a count t → Logging new cur f a count s
+  summed {new} {cur} {f} {a} {count} e g = subst (Logging new cur f a count) (sym e) g
+
   -- where nothing is left, by the answer that the loop stopped at
-  pub logging-end : (new : List ℕ) (cur : State) (f a count : ℕ) (c : Closing) → Logging new cur f a count → left new cur f a ≡ nothing cur (closingOf c) →
-      LoggedBy all from old at (record { state = cur; from = f; at = a; count = count; closing = c }) new
-  logging-end new cur f a count c g e =
+  pub logging-end : (new : List ℕ) (cur : State) (f a count : ℕ) (sum : Total) (c : Closing) → Logging new cur f a count sum → left new cur f a ≡ nothing cur (closingOf c) →
+      LoggedBy all from old at total (record { state = cur; from = f; at = a; count = count; total = sum; closing = c }) new
+  logging-end new cur f a count sum c g e =
       let rs : all .records ≡ g .done = g .records ∙ ap (λ w. g .done ++ w .records) e ∙ append-nil (g .done) in
       record {
         state = sym (g .state ∙ ap (λ w. w .state) e);
         from = sym (g .taken ∙ ap (λ w. f + w .consumed) e ∙ add-zero f);
         count = g .counted ∙ ap length (sym rs);
         closing = sym (g .closing ∙ ap (λ w. w .closing) e);
+        total = g .added ∙ ap (λ l. totalFrom total (unscaled l)) (sym rs);
         put = put-as (ap linesOf (sym rs)) (g .put);
       }

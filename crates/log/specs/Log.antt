@@ -1,9 +1,10 @@
--- The log of a file, read through a buffer: document 01, 'The log program'.
-use Prim.Native.Nat.{ℕ, _+_, _≤_, _<_}
+-- The log of a file, read through a buffer: document 01, 'The log program', and request 1.
+use Prim.Native.Nat.{ℕ, _≤_, _<_}
 use mathlib.Core.Path.{_≡_}
 use mathlib.Core.Bool.{true, false, cond}
-use mathlib.Core.List.{List, _++_}
-use lib.Dec.{ltb}
+use mathlib.Core.List.{List, [], _∷_, _++_}
+use lib.Dec.{eqb, ltb}
+use lib.IntN.{pos}
 use lib.ListN.{length, take, drop}
 use Rattle.rules.specs.Rule.{Rule, Stop, moreBytes, Read, got, stops, read}
 use Rattle.rules.specs.Calls.{Item}
@@ -12,35 +13,52 @@ use Rattle.chemstation.specs.Next.{rule}
 use Rattle.streams.specs.declared.State.{State}
 use Rattle.streams.specs.declared.Record.{Record}
 use Rattle.opening.specs.Opening.{begins}
-use Rattle.lines.specs.Lines.{recordLine, headerLine, endLine}
+use Rattle.sums.specs.Sums.{totalFrom}
+use Rattle.sums.specs.declared.Total.{Total}
+use Rattle.sums.specs.declared.Total.the-variants.{Absent, Amount}
+use Rattle.lines.specs.Lines.{headerLine, totalLine, endLine}
+use Rattle.log.specs.Runs.{linesOf, unscaled}
 
 -- what a rule reads of the bytes to the end of the file through a buffer of so many bytes: 'A full buffer is never taken as the last'
 abbrev pub inBuffer : {A : Type 0} → ℕ → Rule A → List ℕ → Read A
 inBuffer size r bs = cond (ltb (length bs) size) (read true r bs) (read false r (take size bs))
 
--- the text from a state and the bytes behind it on, with so many records before; z closes it, `m` where a full buffer 'still gives *more bytes*'
-pub data RestOf (size : ℕ) : State → List ℕ → ℕ → Stop → List ℕ → Type 0 where
-  record-line : {st : State} {bs : List ℕ} {count : ℕ} {x : Item State Record} {n : ℕ} {z : Stop} {t : List ℕ} → inBuffer size (rule st) bs ≡ got x n →
-      RestOf size (x .after) (drop n bs) (count + 1) z t → RestOf size st bs count z (recordLine (x .shows) ++ t)
-  end-line : {st : State} {bs : List ℕ} {count : ℕ} {z : Stop} → inBuffer size (rule st) bs ≡ stops z → RestOf size st bs count z (endLine z count)
+-- the records from a state and the bytes behind it on, and the answer that closes them: `m` where a full buffer 'still gives *more bytes*'
+pub data Reads (size : ℕ) : State → List ℕ → List Record → Stop → Type 0 where
+  one-more : {st : State} {bs : List ℕ} {x : Item State Record} {n : ℕ} {rs : List Record} {z : Stop} → inBuffer size (rule st) bs ≡ got x n → Reads size (x .after) (drop n bs) rs z → Reads size st bs (x .shows ∷ rs) z
+  no-more : {st : State} {bs : List ℕ} {z : Stop} → inBuffer size (rule st) bs ≡ stops z → Reads size st bs [] z
 
 abbrev pub headerText : Header → List ℕ
 headerText h = headerLine (h .says .edition) (h .says .size)
 
--- 'A refused opening prints only e'
+-- request 1: 'Kind 6 and a refused opening print no t line'
+abbrev pub firstTotal : ℕ → Total
+firstTotal kind = cond (eqb kind 6) Absent (Amount (pos 0))
+
+-- the t line of the records, then e: 'just before `e`'
+abbrev pub footText : Total → List Record → Stop → ℕ → List ℕ
+footText t rs z count = totalLine (totalFrom t (unscaled rs)) ++ endLine z count
+
+-- 'A refused opening prints only e'; else h, the lines of the records, t, e
 pub data LogOf (size kind : ℕ) (F : List ℕ) : Stop → List ℕ → Type 0 where
   refused-run : {z : Stop} → inBuffer size (openRule kind) F ≡ stops z → LogOf size kind F z (endLine z 0)
-  opened-run : {h : Header} {n : ℕ} {z : Stop} {t : List ℕ} → inBuffer size (openRule kind) F ≡ got h n → RestOf size (begins kind h) (drop n F) 0 z t → LogOf size kind F z (headerText h ++ t)
+  opened-run : {h : Header} {n : ℕ} {rs : List Record} {z : Stop} → inBuffer size (openRule kind) F ≡ got h n → Reads size (begins kind h) (drop n F) rs z →
+      LogOf size kind F z (headerText h ++ (linesOf rs ++ footText (firstTotal kind) rs z (length rs)))
 
 -- ---- what is so of every file
+
+-- how a log that closes with `m` begins another of the same file: its closing line stands alone, or both have one header, and its records begin the other's
+pub data Begins (kind : ℕ) (y : Stop) : List ℕ → List ℕ → Type 0 where
+  no-header : (u : List ℕ) → Begins kind y (endLine moreBytes 0) u
+  same-records : (h : Header) (rs vs : List Record) →
+      Begins kind y (headerText h ++ (linesOf rs ++ footText (firstTotal kind) rs moreBytes (length rs))) (headerText h ++ (linesOf (rs ++ vs) ++ footText (firstTotal kind) (rs ++ vs) y (length (rs ++ vs))))
 
 pub record OneLog : Type 0 where
   -- it has a log, and one only
   pub there : (size kind : ℕ) (F : List ℕ) → (z : Stop) × (t : List ℕ) × LogOf size kind F z t
   pub one : (size kind : ℕ) (F : List ℕ) (y z : Stop) (t u : List ℕ) → LogOf size kind F y t → LogOf size kind F z u → t ≡ u
-  -- a larger buffer gives the same log, unless it closes with `m`; then too all before that line is the same
+  -- a larger buffer gives the same log, unless it closes with `m`; then too the lines of all its records are the same
   pub larger : (size more kind : ℕ) (F : List ℕ) (z : Stop) (t : List ℕ) → size ≤ more → LogOf size kind F z t → ¬ (z ≡ moreBytes) → LogOf more kind F z t
-  pub begins-so : (size more kind : ℕ) (F : List ℕ) (y : Stop) (t u : List ℕ) → size ≤ more → LogOf size kind F moreBytes t → LogOf more kind F y u →
-      (v : List ℕ) × (count : ℕ) × (w : List ℕ) × (t ≡ v ++ endLine moreBytes count) × (u ≡ v ++ w)
+  pub begins-so : (size more kind : ℕ) (F : List ℕ) (y : Stop) (t u : List ℕ) → size ≤ more → LogOf size kind F moreBytes t → LogOf more kind F y u → Begins kind y t u
   -- in a buffer that is larger than the file all of it is at hand, told last: no log closes with `m`
   pub no-wait : (size kind : ℕ) (F : List ℕ) (z : Stop) (t : List ℕ) → length F < size → LogOf size kind F z t → ¬ (z ≡ moreBytes)

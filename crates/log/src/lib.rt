@@ -2,6 +2,7 @@
 use reader::Closing;
 use streams::Next;
 use streams::State;
+use sums::Total;
 ghost use Prim.Native.Nat.{_-_, _≤_};
 ghost use mathlib.Core.Path.{_≡_};
 ghost use mathlib.Core.List.{_++_};
@@ -18,10 +19,12 @@ pub struct Logged {
     // the index behind the last line
     pub at: usize,
     pub count: usize,
+    // what the unscaled values add up to
+    pub total: Total,
     pub closing: Closing,
 }
 
-// Reads records from src at index from on, and puts their lines into out from index at on, until out has no room for a
+// Reads records from src at index from on, adds their unscaled values to the total and puts their lines into out from index at on, until out has no room for a
 // line or there is another answer than a record.
 pub fn log_records(
     st: State,
@@ -30,14 +33,18 @@ pub fn log_records(
     last: bool,
     out: &mut [u8],
     at: usize,
+    total: Total,
 ) -> Logged
     requires { ⌜ (from ≤ length (now src)) × (at ≤ length (now out)) ⌝ }
-    ensures { λ r. ⌜ LoggedBy (logged (length (now (out .entry)) - at) last st (drop from (now (src .entry)))) from (now (out .entry)) at r (now (out .exit)) ⌝ }
+    ensures { λ r. ⌜ LoggedBy (logged (length (now (out .entry)) - at) last st (drop from (now (src .entry)))) from (now (out .entry)) at total r (now (out .exit)) ⌝ }
 {
     let mut cur = st;
     let mut f = from;
     let mut a = at;
     let mut count: usize = 0;
+    // the total, and the double beside it that takes the values
+    let mut far = total;
+    let mut near = tally::beside(total);
     while out.len() - a >= 70 {
         match chemstation::next_record(cur, &src[f..], last) {
             Next::Stopped(z) => {
@@ -46,10 +53,19 @@ pub fn log_records(
                     from: f,
                     at: a,
                     count,
+                    total: tally::join(near, far),
                     closing: Closing::Stopped(z),
                 };
             }
             Next::Given(r, after, k) => {
+                let v = streams::unscaled_of(r);
+                let next = near + v;
+                if tally::exact(near, v, next) {
+                    near = next;
+                } else if tally::is_amount(far) {
+                    far = sums::plus(tally::join(near, far), v);
+                    near = tally::beside(far);
+                }
                 a = lines::put_record(out, a, r);
                 cur = after;
                 f += k;
@@ -62,6 +78,7 @@ pub fn log_records(
         from: f,
         at: a,
         count,
+        total: tally::join(near, far),
         closing: Closing::Full,
     }
 }

@@ -19,11 +19,12 @@ use Rattle.opening.proofs.HeaderOpens.{state-by, says-by}
 use Rattle.opening.specs.declared.Opening.the-variants as opening
 use Rattle.opening.specs.declared.OpenedRun.{OpenedRun}
 use Rattle.lines.specs.Lines.{headerLine}
-use Rattle.log.specs.Log.{headerText}
+use Rattle.sums.specs.declared.Total.{Total}
+use Rattle.log.specs.Log.{headerText, firstTotal}
 use Rattle.places.specs.declared.Ask.{Ask}
 use Rattle.places.specs.declared.Phase.the-variants.{Records, Over}
 use Rattle.places.specs.declared.Place.{Place}
-use Rattle.places.specs.Machine.{movedTo, putAt, IsStep, closes, refills, logsRecords, opens}
+use Rattle.places.specs.Machine.{movedTo, totalled, putAt, IsStep, closes, refills, logsRecords, opens}
 use Rattle.places.proofs.Steps.{step-as}
 
 refused-so : (kind : ℕ) (x : Read Header) (z : Stopped) → startRead (opening.Stopped z) ≡ mapRead (begins kind) x → x ≡ stops (stopOf z)
@@ -65,12 +66,17 @@ module _ (kind : ℕ) (p : Place) (buf out : List ℕ) {last : Bool} {s : List �
     line : headerLine (r .metadata .edition) (r .metadata .size) ≡ headerText (start .header)
     line = ap (λ d. headerLine (d .edition) (d .size)) (sym (start .says))
 
+    abbrev here : Place
+    here = totalled (movedTo p (Records (begins kind (start .header))) (p .from + n) (p .to) (p .at + length (headerText (start .header))) (p .count)) (firstTotal kind)
+
     -- behind the header the records at hand are logged
-    pub open-runs : {a : Ask} {b t : List ℕ} (q : Place) (out′ : List ℕ) (at : ℕ) → at ≡ p .at + length (headerLine (r .metadata .edition) (r .metadata .size)) →
-        out′ ≡ putAt (p .at) (headerLine (r .metadata .edition) (r .metadata .size)) out → q ≡ movedTo p (Records st) (p .from + n) (p .to) at (p .count) → IsStep (logsRecords st q buf out′) a b t → IsStep (opens kind p buf out x) a b t
-    open-runs q out′ at f g k i =
-        let there : q ≡ movedTo p (Records (begins kind (start .header))) (p .from + n) (p .to) (p .at + length (headerText (start .header))) (p .count) =
-        k ∙ ap₂ (λ s m. movedTo p (Records s) (p .from + n) (p .to) m (p .count)) (sym (start .state)) (f ∙ ap (λ l. p .at + length l) line) in
+    pub open-runs : {a : Ask} {b t : List ℕ} (m q : Place) (out′ : List ℕ) (at : ℕ) (total : Total) → at ≡ p .at + length (headerLine (r .metadata .edition) (r .metadata .size)) →
+        out′ ≡ putAt (p .at) (headerLine (r .metadata .edition) (r .metadata .size)) out → m ≡ movedTo p (Records st) (p .from + n) (p .to) at (p .count) → q ≡ totalled m total → total ≡ firstTotal kind →
+        IsStep (logsRecords st q buf out′) a b t → IsStep (opens kind p buf out x) a b t
+    open-runs m q out′ at total f g k k′ k″ i =
+        let moved : m ≡ movedTo p (Records (begins kind (start .header))) (p .from + n) (p .to) (p .at + length (headerText (start .header))) (p .count) =
+        k ∙ ap₂ (λ s l. movedTo p (Records s) (p .from + n) (p .to) l (p .count)) (sym (start .state)) (f ∙ ap (λ l. p .at + length l) line) in
+        let there : q ≡ here = k′ ∙ ap₂ totalled moved k″ in
         step-as
-        (ap₂ (λ s y. logsRecords s y buf out′) (sym (start .state)) there ∙ ap (λ o. logsRecords (begins kind (start .header)) (movedTo p (Records (begins kind (start .header))) (p .from + n) (p .to) (p .at + length (headerText (start .header))) (p .count)) buf o) (g ∙ ap (λ l. putAt (p .at) l out) line) ∙ ap (opens kind p buf out) (sym (start .reads)))
+        (ap₂ (λ s y. logsRecords s y buf out′) (sym (start .state)) there ∙ ap (λ o. logsRecords (begins kind (start .header)) here buf o) (g ∙ ap (λ l. putAt (p .at) l out) line) ∙ ap (opens kind p buf out) (sym (start .reads)))
         i

@@ -10,6 +10,7 @@ use places::refill;
 use places::write;
 use reader::Closing;
 use streams::State;
+use sums::Total;
 ghost use Prim.Native.Nat.{_+_, _≤_};
 ghost use mathlib.Core.Path.{_≡_};
 ghost use lib.ListN.{length};
@@ -17,11 +18,12 @@ ghost use Rattle.rules.specs.Rule.{read};
 ghost use Rattle.rules.specs.Calls.{stopped};
 ghost use Rattle.error.specs.Number.{stopOf};
 ghost use Rattle.metadata.specs.Metadata.{openRule};
+ghost use Rattle.log.specs.Log.{firstTotal};
 ghost use Rattle.places.specs.Machine.{atHand, fits, goesOn, logsRecords, opens, stepOf, IsStep};
 
 // What an answer other than a record leads to.
 fn go_on(p: Place, st: State, z: Stopped, buf: &mut [u8], out: &mut [u8]) -> Ask
-    requires { ⌜ (p .from ≤ p .to) × (p .to ≤ length (now buf)) × (p .at + 44 ≤ length (now out)) ⌝ }
+    requires { ⌜ (p .from ≤ p .to) × (p .to ≤ length (now buf)) × (p .at + 68 ≤ length (now out)) ⌝ }
     ensures { λ r. ⌜ IsStep (goesOn p st (stopped (stopOf z)) (now (buf .entry)) (now (out .entry))) r (now (buf .exit)) (now (out .exit)) ⌝ }
 {
     let from = p.from;
@@ -40,14 +42,17 @@ fn log_hand(st: State, p: Place, buf: &mut [u8], out: &mut [u8]) -> Ask
 {
     let from = p.from;
     let to = p.to;
-    let w = log::log_records(st, &buf[from..to], 0, p.last, out, p.at);
+    let before = p.total;
+    let w = log::log_records(st, &buf[from..to], 0, p.last, out, p.at, before);
     let left = from + w.from;
     if w.count > usize::MAX - p.count {
         let q = moves(p, Phase::TooLong, left, to, w.at, p.count);
         return write(q);
     }
     let state = w.state;
-    let q = moves(p, Phase::Records(state), left, to, w.at, p.count + w.count);
+    let total = w.total;
+    let m = moves(p, Phase::Records(state), left, to, w.at, p.count + w.count);
+    let q = places::totals(m, total);
     let closing = w.closing;
     match closing {
         Closing::Full => write(q),
@@ -55,9 +60,19 @@ fn log_hand(st: State, p: Place, buf: &mut [u8], out: &mut [u8]) -> Ask
     }
 }
 
+// The total before the first record: an array's values are not added up.
+fn first_total(kind: u8) -> Total
+    ensures { λ r. ⌜ r ≡ firstTotal kind ⌝ }
+{
+    if kind == 6 {
+        return Total::Absent;
+    }
+    Total::Amount(0)
+}
+
 // Opens the run, and logs the records at hand behind its header.
 fn open(kind: u8, p: Place, buf: &mut [u8], out: &mut [u8]) -> Ask
-    requires { ⌜ (p .from ≤ p .to) × (p .to ≤ length (now buf)) × (p .at + 44 ≤ length (now out)) ⌝ }
+    requires { ⌜ (p .from ≤ p .to) × (p .to ≤ length (now buf)) × (p .at + 68 ≤ length (now out)) ⌝ }
     ensures { λ r. ⌜ IsStep (opens kind p (now (buf .entry)) (now (out .entry)) (read (p .last) (openRule kind) (atHand (now (buf .entry)) p))) r (now (buf .exit)) (now (out .exit)) ⌝ }
 {
     let from = p.from;
@@ -73,7 +88,8 @@ fn open(kind: u8, p: Place, buf: &mut [u8], out: &mut [u8]) -> Ask
         },
         Opening::Run(st, n) => {
             let at = lines::put_header(out, p.at, d.edition, d.size);
-            let q = moves(p, Phase::Records(st), from + n, to, at, p.count);
+            let m = moves(p, Phase::Records(st), from + n, to, at, p.count);
+            let q = places::totals(m, first_total(kind));
             log_hand(st, q, buf, out)
         }
     }

@@ -1,17 +1,25 @@
 -- The bytes of a mark, compared one by one.
 use mathlib.Core.Path.{_≡_, refl, sym, ap, ap₂, _∙_}
 use mathlib.Core.Bool.{true, false, _&&_}
-use mathlib.Core.List.{List}
+use mathlib.Core.List.{List, [], _∷_}
 use Prim.Native.Nat.{ℕ, _+_, _≤_, _<_}
 use native.Mathlib.Numerals.{add-one}
 use native.Mathlib.Omega.{arith}
-use lib.Dec.{eqb}
+use lib.Dec.{T, eqb, eqb→eq}
 use lib.ListN.{length, drop, getD}
 use lib.Seq.{drop-cons, drop-length, getD-take, getD-drop}
 use borrow.Author.Tests.{eq-eqb, ne-eqb}
+use mir.Facts.{and-yes}
 use Rattle.common.specs.Bytes.{part}
 use Rattle.common.proofs.Laws.{length-part}
 use Rattle.opening.specs.Opening.{sameBytes}
+
+-- bytes that are the same by the test are the same
+pub same-is : (l m : List ℕ) → T (sameBytes l m) → l ≡ m
+same-is [] [] t = refl
+same-is [] (b ∷ bs) t = absurd t
+same-is (a ∷ r) [] t = absurd t
+same-is (a ∷ r) (b ∷ bs) t = let p = and-yes (eqb a b) (sameBytes r bs) t in ap₂ (λ x xs. x ∷ xs) (eqb→eq a b (p .0)) (same-is r bs (p .1))
 
 -- what is left to compare behind the first i
 abbrev pub Compared : List ℕ → ℕ → List ℕ → ℕ → Type 0

@@ -21,7 +21,9 @@ use Rattle.error.specs.declared.Stopped.the-variants.{Refused}
 use Rattle.reader.specs.Columns.{closingOf}
 use Rattle.reader.specs.declared.Closing.{Closing}
 use Rattle.reader.specs.declared.Closing.the-variants as closing
-use Rattle.log.specs.Runs.{linesOf, logged, LoggedBy}
+use Rattle.sums.specs.Sums.{totalFrom}
+use Rattle.sums.specs.declared.Total.{Total}
+use Rattle.log.specs.Runs.{linesOf, unscaled, logged, LoggedBy}
 use Rattle.log.proofs.Logs.{line-some, no-room, logged-got, logged-stops, read-inside, read-room}
 use Rattle.lines.specs.Lines.{recordLine}
 use Rattle.log.specs.declared.Logged.{Logged}
@@ -31,7 +33,7 @@ use Rattle.streams.specs.declared.Record.{Record}
 use Rattle.places.specs.declared.Phase.{Phase}
 use Rattle.places.specs.declared.Phase.the-variants.{Records, Ended, TooLong, Over}
 use Rattle.places.specs.declared.Place.{Place}
-use Rattle.places.specs.Machine.{atHand, putAt, movedTo, Stepped, IsStep, most, writes, closes, fits, goesOn, behind, afterwards, byPhase, stepOf, isFinished, finishedFrom, closingBytes, scanLeft, endsBy}
+use Rattle.places.specs.Machine.{atHand, putAt, movedTo, totalled, Stepped, IsStep, most, writes, closes, fits, goesOn, behind, afterwards, byPhase, stepOf, isFinished, finishedFrom, closingBytes, scanLeft, endsBy}
 
 -- the lent memory after a text was put
 pub put-at : {l old new : List ℕ} {at r : ℕ} → Put l at old r new → new ≡ putAt at l old
@@ -124,7 +126,7 @@ module _ (p : Place) (st : State) (buf out : List ℕ) {r : Ask} {b o : List ℕ
 
 -- ---- records logged
 
-module _ (p : Place) (st : State) (buf out out′ : List ℕ) (g : Reading State Record) (w : Logged) (l : LoggedBy g 0 out (p .at) w out′) where
+module _ (p : Place) (st : State) (buf out out′ : List ℕ) (g : Reading State Record) (w : Logged) (l : LoggedBy g 0 out (p .at) (p .total) w out′) where
   -- the place behind them
   placed : (phase : Phase) (count : ℕ) (q : Place) → q ≡ movedTo p phase (p .from + w .from) (p .to) (w .at) count → q ≡ movedTo p phase (p .from + g .consumed) (p .to) (p .at + length (linesOf (g .records))) count
   placed phase count q e = e ∙ ap₂ (λ f a. movedTo p phase (p .from + f) (p .to) a count) (l .from ∙ zero-add (g .consumed)) (l .put .next)
@@ -134,13 +136,17 @@ module _ (p : Place) (st : State) (buf out out′ : List ℕ) (g : Reading State
       then-step _ (lt-ltb most (p .count + length (g .records)) (omega (arith, l .count)))
       record { answer = i .answer ∙ ap (λ x. writes x (x .phase) buf out′ .answer) (placed TooLong (p .count) q e); buffer = refl; text = put-at (l .put) }
 
-  pub logged-on : {r : Ask} {b o : List ℕ} (q : Place) → p .count + w .count ≤ most → q ≡ movedTo p (Records (w .state)) (p .from + w .from) (p .to) (w .at) (p .count + w .count) →
-      IsStep (goesOn q (w .state) (closingOf (w .closing)) buf out′) r b o → IsStep (behind p st buf out g) r b o
-  logged-on q h e i =
-      let here : q ≡ movedTo p (Records (g .state)) (p .from + g .consumed) (p .to) (p .at + length (linesOf (g .records))) (p .count + length (g .records)) =
+  abbrev onward : Place
+  onward = totalled (movedTo p (Records (g .state)) (p .from + g .consumed) (p .to) (p .at + length (linesOf (g .records))) (p .count + length (g .records))) (totalFrom (p .total) (unscaled (g .records)))
+
+  pub logged-on : {r : Ask} {b o : List ℕ} (q q′ : Place) → p .count + w .count ≤ most → q ≡ movedTo p (Records (w .state)) (p .from + w .from) (p .to) (w .at) (p .count + w .count) →
+      q′ ≡ totalled q (w .total) → IsStep (goesOn q′ (w .state) (closingOf (w .closing)) buf out′) r b o → IsStep (behind p st buf out g) r b o
+  logged-on q q′ h e f i =
+      let moved : q ≡ movedTo p (Records (g .state)) (p .from + g .consumed) (p .to) (p .at + length (linesOf (g .records))) (p .count + length (g .records)) =
       placed (Records (w .state)) (p .count + w .count) q e ∙ ap₂ (λ s n. movedTo p (Records s) (p .from + g .consumed) (p .to) (p .at + length (linesOf (g .records))) (p .count + n)) (l .state) (l .count) in
+      let here : q′ ≡ onward = f ∙ ap₂ totalled moved (l .total) in
       else-step _ (le-ltb most (p .count + length (g .records)) (omega (arith, l .count)))
-      (step-as (ap₂ (λ x s. goesOn x s (closingOf (w .closing)) buf out′) here (l .state) ∙ ap₂ (λ c t. goesOn (movedTo p (Records (g .state)) (p .from + g .consumed) (p .to) (p .at + length (linesOf (g .records))) (p .count + length (g .records))) (g .state) c buf t) (l .closing) (put-at (l .put))) i)
+      (step-as (ap₂ (λ x s. goesOn x s (closingOf (w .closing)) buf out′) here (l .state) ∙ ap₂ (λ c t. goesOn onward (g .state) c buf t) (l .closing) (put-at (l .put))) i)
 
 -- ---- by the phase
 
@@ -180,15 +186,16 @@ pub hand-long : (p : Place) (buf : List ℕ) → p .from ≤ p .to → p .to ≤
 hand-long p buf h k = length-take-le (p .to - p .from) (drop (p .from) buf) (omega (arith, length-drop (p .from) buf))
 
 -- the place behind the records logged lies inside, with room for the closing line where they stopped
-module _ (p q : Place) (buf out out′ : List ℕ) (last : Bool) (st : State) (w : Logged) (phase : Phase) (count : ℕ) where
+module _ (p q : Place) (buf out out′ : List ℕ) (last : Bool) (st : State) (t : Total) (w : Logged) (phase : Phase) (count : ℕ) where
   pub record Behind : Type 0 where
     pub low : q .from ≤ q .to
     pub filled : q .to ≤ length buf
-    pub line : q .at + 44 ≤ length out′
+    pub line : q .at + 68 ≤ length out′
 
-  pub behind-inside : p .from ≤ p .to → p .to ≤ length buf → p .at ≤ length out → LoggedBy (logged (length out - p .at) last st (atHand buf p)) 0 out (p .at) w out′ →
-      q ≡ movedTo p phase (p .from + w .from) (p .to) (w .at) count → (z : Stopped) → w .closing ≡ closing.Stopped z → Behind
-  behind-inside low filled room l e z c =
+  pub behind-inside : p .from ≤ p .to → p .to ≤ length buf → p .at ≤ length out → LoggedBy (logged (length out - p .at) last st (atHand buf p)) 0 out (p .at) t w out′ →
+      (m : Place) (s : Total) → m ≡ movedTo p phase (p .from + w .from) (p .to) (w .at) count → q ≡ totalled m s → (z : Stopped) → w .closing ≡ closing.Stopped z → Behind
+  behind-inside low filled room l m s d f z c =
+      let e : q ≡ totalled (movedTo p phase (p .from + w .from) (p .to) (w .at) count) s = f ∙ ap (λ x. totalled x s) d in
       let hand = hand-long p buf low filled in
       let inside = read-inside (length out - p .at) (length out - p .at) last st (atHand buf p) in
       let free = read-room (length out - p .at) (length out - p .at) last st (atHand buf p) (sym (l .closing) ∙ ap closingOf c) in
@@ -198,7 +205,7 @@ module _ (p q : Place) (buf out out′ : List ℕ) (last : Bool) (st : State) (w
         line = omega (arith, ap (λ x. x .at) e, l .put .next, l .put .same);
       }
 
-  pub taken-inside : p .from ≤ p .to → p .to ≤ length buf → LoggedBy (logged (length out - p .at) last st (atHand buf p)) 0 out (p .at) w out′ → p .from + w .from ≤ p .to
+  pub taken-inside : p .from ≤ p .to → p .to ≤ length buf → LoggedBy (logged (length out - p .at) last st (atHand buf p)) 0 out (p .at) t w out′ → p .from + w .from ≤ p .to
   taken-inside low filled l =
       let hand = hand-long p buf low filled in
       let inside = read-inside (length out - p .at) (length out - p .at) last st (atHand buf p) in

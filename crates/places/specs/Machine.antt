@@ -1,4 +1,4 @@
--- The log program without input and output: what a run asks for at a place, and where it stands then. Document 01, 'The log program'.
+-- The log program without input and output: what a run asks for at a place, and where it stands then. Document 01, 'The log program', and request 1.
 use Prim.Native.Nat.{ℕ, zero, suc, _+_, _-_}
 use mathlib.Core.Path.{_≡_}
 use mathlib.Core.Bool.{Bool, true, false, cond, _&&_, _||_}
@@ -14,10 +14,13 @@ use Rattle.streams.specs.declared.State.{State}
 use Rattle.streams.specs.declared.State.the-variants.{Fid, Ms, Mwd, Dad, Uv, Array}
 use Rattle.streams.specs.declared.Record.{Record}
 use Rattle.digits.specs.Numbers.{kindOf}
-use Rattle.lines.specs.Lines.{endLine}
+use Rattle.sums.specs.Sums.{totalFrom}
+use Rattle.sums.specs.declared.Total.{Total}
+use Rattle.sums.specs.declared.Total.the-variants.{Absent}
+use Rattle.lines.specs.Lines.{totalLine, endLine}
 use Rattle.lines.specs.Left.{leftLine, tooLongLine}
-use Rattle.log.specs.Runs.{linesOf, logged}
-use Rattle.log.specs.Log.{headerText}
+use Rattle.log.specs.Runs.{linesOf, unscaled, logged}
+use Rattle.log.specs.Log.{headerText, firstTotal}
 use Rattle.places.specs.declared.Phase.{Phase}
 use Rattle.places.specs.declared.Phase.the-variants.{Digit, Header as HeaderOf, Records, Ended, TooLong, Over}
 use Rattle.places.specs.declared.Place.{Place}
@@ -28,10 +31,13 @@ use Rattle.places.specs.declared.Ask.the-variants as ask
 
 -- the first of the bytes: none has come
 abbrev pub started : Place
-started = record { phase = Digit; from = 0; to = 0; last = false; at = 0; count = 0; came = 0 }
+started = record { phase = Digit; from = 0; to = 0; last = false; at = 0; count = 0; total = Absent; came = 0 }
 
 abbrev pub movedTo : Place → Phase → ℕ → ℕ → ℕ → ℕ → Place
-movedTo p phase from to at count = record { phase = phase; from = from; to = to; last = p .last; at = at; count = count; came = p .came }
+movedTo p phase from to at count = record { phase = phase; from = from; to = to; last = p .last; at = at; count = count; total = p .total; came = p .came }
+
+abbrev pub totalled : Place → Total → Place
+totalled p t = record { phase = p .phase; from = p .from; to = p .to; last = p .last; at = p .at; count = p .count; total = t; came = p .came }
 
 -- nothing is asked for any more but to write what stands in the output buffer: so ends a run that could not be read, without an `e`
 abbrev pub over : Place → Place
@@ -63,11 +69,11 @@ nothingMore buf out = record { answer = ask.Closed; buf = buf; out = out }
 abbrev pub writes : Place → Phase → List ℕ → List ℕ → Stepped
 writes p phase buf out = record { answer = ask.Write (movedTo p phase (p .from) (p .to) 0 (p .count)) (p .at); buf = buf; out = out }
 
--- 'e: closing answer, record count' is put behind it, and all is written
+-- 'a line `t` .. just before `e`', 'e: closing answer, record count' are put behind it, and all is written
 abbrev pub closes : Place → Phase → Stop → List ℕ → List ℕ → Stepped
 closes p phase z buf out =
-    let line = endLine z (p .count) in
-    record { answer = ask.Write (movedTo p phase (p .from) (p .to) 0 (p .count)) (p .at + length line); buf = buf; out = putAt (p .at) line out }
+    let text = totalLine (p .total) ++ endLine z (p .count) in
+    record { answer = ask.Write (movedTo p phase (p .from) (p .to) 0 (p .count)) (p .at + length text); buf = buf; out = putAt (p .at) text out }
 
 abbrev pub tells : Place → List ℕ → List ℕ → List ℕ → Stepped
 tells p line buf out = record { answer = ask.Tell (movedTo p Over (p .from) (p .to) 0 (p .count)) (length line); buf = buf; out = putAt 0 line out }
@@ -135,7 +141,7 @@ behind p st buf out g =
     let count = p .count + length (g .records) in
     cond (ltb most count)
     (writes (movedTo p TooLong (p .from + g .consumed) (p .to) (p .at + length text) (p .count)) TooLong buf (putAt (p .at) text out))
-    (goesOn (movedTo p (Records (g .state)) (p .from + g .consumed) (p .to) (p .at + length text) count) (g .state) (g .closing) buf (putAt (p .at) text out))
+    (goesOn (totalled (movedTo p (Records (g .state)) (p .from + g .consumed) (p .to) (p .at + length text) count) (totalFrom (p .total) (unscaled (g .records)))) (g .state) (g .closing) buf (putAt (p .at) text out))
 
 -- the records at hand are logged
 unfoldable pub logsRecords : State → Place → List ℕ → List ℕ → Stepped
@@ -147,7 +153,7 @@ logsRecords st p buf out = behind p st buf out (logged (length out - p .at) (p .
 abbrev pub opens : ℕ → Place → List ℕ → List ℕ → Read Header → Stepped
 opens kind p buf out (got h n) =
     let st = begins kind h in
-    logsRecords st (movedTo p (Records st) (p .from + n) (p .to) (p .at + length (headerText h)) (p .count)) buf (putAt (p .at) (headerText h) out)
+    logsRecords st (totalled (movedTo p (Records st) (p .from + n) (p .to) (p .at + length (headerText h)) (p .count)) (firstTotal kind)) buf (putAt (p .at) (headerText h) out)
 opens kind p buf out (stops moreBytes) = refills p buf out
 opens kind p buf out (stops (refused c)) = closes p Over (refused c) buf out
 opens kind p buf out (stops finished) = closes p Over finished buf out
@@ -188,7 +194,7 @@ pub record IsStep (s : Stepped) (r : Ask) (buf out : List ℕ) : Type 0 where
 -- ---- what a read answers, and a write
 
 abbrev pub grown : Place → Phase → ℕ → ℕ → Place
-grown p phase from k = record { phase = phase; from = from; to = p .to + k; last = p .last; at = p .at; count = p .count; came = p .came + k }
+grown p phase from k = record { phase = phase; from = from; to = p .to + k; last = p .last; at = p .at; count = p .count; total = p .total; came = p .came + k }
 
 -- so many bytes came behind those at hand: 'one kind digit, then the file'
 abbrev pub came : Phase → Place → ℕ → List ℕ → Place
@@ -202,7 +208,7 @@ came Over p k buf = grown p (p .phase) (p .from) k
 -- none is the end of the input; a count that there was no room for ends the run as a read that failed does
 unfoldable pub tookOf : Place → ℕ → List ℕ → Place
 tookOf p k buf =
-    cond (eqb k 0) (record { phase = p .phase; from = p .from; to = p .to; last = true; at = p .at; count = p .count; came = p .came })
+    cond (eqb k 0) (record { phase = p .phase; from = p .from; to = p .to; last = true; at = p .at; count = p .count; total = p .total; came = p .came })
     (cond (ltb (length buf - p .to) k) (over p)
     (cond (ltb most (p .came + k)) (movedTo p TooLong (p .from) (p .to) (p .at) (p .count))
     (came (p .phase) p k buf)))

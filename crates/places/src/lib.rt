@@ -3,6 +3,7 @@ use error::Refusal;
 use error::Stopped;
 use reader::Closing;
 use streams::State;
+use sums::Total;
 ghost use Prim.Native.Nat.{ℕ, _+_, _-_, _≤_, _<_};
 ghost use mathlib.Core.Path.{_≡_};
 ghost use mathlib.Core.List.{List};
@@ -13,7 +14,7 @@ ghost use Rattle.error.specs.Number.{stopOf};
 ghost use Rattle.lines.specs.Left.{leftLine, tooLongLine};
 ghost use Rattle.chemstation.specs.Next.{rule};
 ghost use Rattle.places.specs.declared.Phase.the-variants.{Digit};
-ghost use Rattle.places.specs.Machine.{most, started, movedTo, writes, closes, refills, isFinished, closingBytes, scanLeft, endsBy, tells, tellsLeft, leaves, onceWritten, byPhase, IsStep, grown, came, over, tookOf, wroteOf};
+ghost use Rattle.places.specs.Machine.{most, started, movedTo, totalled, writes, closes, refills, isFinished, closingBytes, scanLeft, endsBy, tells, tellsLeft, leaves, onceWritten, byPhase, IsStep, grown, came, over, tookOf, wroteOf};
 
 // What a run does next.
 pub enum Phase {
@@ -41,6 +42,8 @@ pub struct Place {
     pub at: usize,
     // records
     pub count: usize,
+    // what their unscaled values add up to; absent where no t line is due
+    pub total: Total,
     // bytes of the input, the digit among them
     pub came: u64,
 }
@@ -67,6 +70,7 @@ pub fn start() -> Place
         last: false,
         at: 0,
         count: 0,
+        total: Total::Absent,
         came: 0,
     }
 }
@@ -82,6 +86,7 @@ fn less(a: usize, b: usize) -> usize
 pub fn moves(p: Place, phase: Phase, from: usize, to: usize, at: usize, count: usize) -> Place
     ensures { λ r. ⌜ r ≡ movedTo p phase from to at count ⌝ }
 {
+    let total = p.total;
     Place {
         phase,
         from,
@@ -89,6 +94,24 @@ pub fn moves(p: Place, phase: Phase, from: usize, to: usize, at: usize, count: u
         last: p.last,
         at,
         count,
+        total,
+        came: p.came,
+    }
+}
+
+// The same place but for the total.
+pub fn totals(p: Place, total: Total) -> Place
+    ensures { λ r. ⌜ r ≡ totalled p total ⌝ }
+{
+    let phase = p.phase;
+    Place {
+        phase,
+        from: p.from,
+        to: p.to,
+        last: p.last,
+        at: p.at,
+        count: p.count,
+        total,
         came: p.came,
     }
 }
@@ -102,18 +125,20 @@ pub fn write(p: Place) -> Ask
     Ask::Write(moves(p, phase, p.from, p.to, 0, p.count), at)
 }
 
-// The closing line is put behind it, and all is written.
+// The t line, if there is one, and the closing line are put behind it, and all is written.
 pub fn close(p: Place, phase: Phase, z: Stopped, out: &mut [u8]) -> Ask
-    requires { ⌜ p .at + 44 ≤ length (now out) ⌝ }
+    requires { ⌜ p .at + 68 ≤ length (now out) ⌝ }
     ensures { λ r. ⌜ ((buf : List ℕ) → IsStep (closes p phase (stopOf z) buf (now (out .entry))) r buf (now (out .exit))) ⌝ }
 {
-    let n = lines::put_end(out, p.at, z, p.count);
+    let total = p.total;
+    let at = lines::put_total(out, p.at, total);
+    let n = lines::put_end(out, at, z, p.count);
     Ask::Write(moves(p, phase, p.from, p.to, 0, p.count), n)
 }
 
 // More bytes are due behind those at hand. If these fill the buffer, the run closes.
 pub fn refill(p: Place, buf: &mut [u8], out: &mut [u8]) -> Ask
-    requires { ⌜ (p .from ≤ p .to) × (p .to ≤ length (now buf)) × (p .at + 44 ≤ length (now out)) ⌝ }
+    requires { ⌜ (p .from ≤ p .to) × (p .to ≤ length (now buf)) × (p .at + 68 ≤ length (now out)) ⌝ }
     ensures { λ r. ⌜ IsStep (refills p (now (buf .entry)) (now (out .entry))) r (now (buf .exit)) (now (out .exit)) ⌝ }
 {
     let n = p.to - p.from;
@@ -131,7 +156,7 @@ fn finished(st: State, s: &[u8]) -> bool
     ensures { λ r. ⌜ r ≡ isFinished (read false (rule st) (now (s .entry))) ⌝ }
 {
     let mut line = [0u8; 70];
-    let w = log::log_records(st, s, 0, false, &mut line, 0);
+    let w = log::log_records(st, s, 0, false, &mut line, 0, Total::Absent);
     let closing = w.closing;
     match closing {
         Closing::Full => false,
@@ -173,7 +198,7 @@ fn scan_left(st: State) -> usize
 
 // The run is closed with 0: the fields that closed it are consumed.
 pub fn end(p: Place, st: State, hand: &[u8], out: &mut [u8]) -> Ask
-    requires { ⌜ (p .from + length (now hand) ≤ p .to) × (p .at + 44 ≤ length (now out)) ⌝ }
+    requires { ⌜ (p .from + length (now hand) ≤ p .to) × (p .at + 68 ≤ length (now out)) ⌝ }
     ensures { λ r. ⌜ ((buf : List ℕ) → IsStep (endsBy st p (now (hand .entry)) buf (now (out .entry))) r buf (now (out .exit))) ⌝ }
 {
     let phase = p.phase;
@@ -226,7 +251,7 @@ fn leave(all: usize, due: usize, p: Place, out: &mut [u8]) -> Ask
 
 // The digit is due.
 pub fn first(p: Place, out: &mut [u8]) -> Ask
-    requires { ⌜ p .at + 44 ≤ length (now out) ⌝ }
+    requires { ⌜ p .at + 68 ≤ length (now out) ⌝ }
     ensures { λ r. ⌜ ((buf : List ℕ) → IsStep (byPhase Digit p buf (now (out .entry))) r buf (now (out .exit))) ⌝ }
 {
     if p.last {
@@ -271,6 +296,7 @@ fn grow(p: Place, phase: Phase, from: usize, k: usize) -> Place
     ensures { λ r. ⌜ r ≡ grown p phase from k ⌝ }
 {
     let last = p.last;
+    let total = p.total;
     Place {
         phase,
         from,
@@ -278,6 +304,7 @@ fn grow(p: Place, phase: Phase, from: usize, k: usize) -> Place
         last,
         at: p.at,
         count: p.count,
+        total,
         came: p.came + k as u64,
     }
 }
@@ -305,6 +332,7 @@ pub fn took(p: Place, k: usize, buf: &[u8]) -> Place
     ensures { λ r. ⌜ r ≡ tookOf p k (now (buf .entry)) ⌝ }
 {
     let phase = p.phase;
+    let total = p.total;
     if k == 0 {
         return Place {
             phase,
@@ -313,6 +341,7 @@ pub fn took(p: Place, k: usize, buf: &[u8]) -> Place
             last: true,
             at: p.at,
             count: p.count,
+            total,
             came: p.came,
         };
     }

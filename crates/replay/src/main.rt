@@ -9,6 +9,7 @@ use metadata::Opened;
 use opening::Opening;
 use reader::Closing;
 use streams::State;
+use sums::Total;
 ghost use Prim.Native.Nat.{_+_, _*_, _≤_, _<_};
 ghost use mathlib.Core.Path.{_≡_};
 ghost use lib.ListN.{length};
@@ -155,7 +156,7 @@ fn put_records(st: State, s: &[u8], from: usize, last: bool, out: &mut [u8], at:
     requires { ⌜ (from ≤ length (now s)) × (at ≤ length (now out)) × (32768 ≤ length (now out)) ⌝ }
     ensures { λ r. ⌜ r ≤ length (now (out .entry)) ⌝ }
 {
-    let w = log::log_records(st, s, from, last, out, at);
+    let w = log::log_records(st, s, from, last, out, at, Total::Absent);
     let closing = w.closing;
     let a = room(out, w.at);
     match closing {

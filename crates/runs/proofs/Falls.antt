@@ -16,10 +16,12 @@ use Rattle.chemstation.specs.Next.{rule}
 use Rattle.opening.specs.Opening.{begins}
 use Rattle.streams.specs.declared.State.{State}
 use Rattle.streams.specs.declared.Record.{Record}
-use Rattle.lines.specs.Lines.{endLine, recordLine}
+use Rattle.sums.specs.declared.Total.{Total}
+use Rattle.lines.specs.Lines.{totalLine, endLine, recordLine}
 use Rattle.lines.specs.Left.{leftLine, tooLongLine}
-use Rattle.log.specs.Log.{headerText}
-use Rattle.log.specs.Runs.{linesOf, logged, readInto}
+use Rattle.sums.specs.Sums.{totalFrom}
+use Rattle.log.specs.Log.{headerText, firstTotal}
+use Rattle.log.specs.Runs.{linesOf, unscaled, logged, readInto}
 use Rattle.log.proofs.Logs.{by-step, no-room, read-inside, read-room, read-some, read-few}
 use Rattle.log.proofs.Cuts.{never-waits}
 use Rattle.places.specs.declared.Phase.{Phase}
@@ -27,10 +29,10 @@ use Rattle.places.specs.declared.Phase.the-variants.{Digit, Header as HeaderOf,
 use Rattle.places.specs.declared.Place.{Place}
 use Rattle.places.specs.declared.Ask.{Ask}
 use Rattle.places.specs.declared.Ask.the-variants as ask
-use Rattle.places.specs.Machine.{most, movedTo, over, atHand, putAt, fits, Stepped, nothingMore, writes, closes, tells, refills, closingBytes, scanLeft, tellsLeft, leaves, goesOn, behind, logsRecords, opens, afterwards, onceWritten, byPhase, stepOf, grown, came, tookOf, wroteOf}
+use Rattle.places.specs.Machine.{most, movedTo, totalled, over, atHand, putAt, fits, Stepped, nothingMore, writes, closes, tells, refills, closingBytes, scanLeft, tellsLeft, leaves, goesOn, behind, logsRecords, opens, afterwards, onceWritten, byPhase, stepOf, grown, came, tookOf, wroteOf}
 use Rattle.places.proofs.Steps.{Inside, fits-inside, hand-long}
 use Rattle.runs.specs.Whole.{rank, weight, Falls}
-use Rattle.runs.proofs.Lengths.{header-long, end-long, left-long, too-long-long, lines-fit, put-same}
+use Rattle.runs.proofs.Lengths.{header-long, foot-long, left-long, too-long-long, lines-fit, put-same}
 
 -- ---- the measure
 
@@ -114,7 +116,7 @@ module _ (p : Place) (buf out : List ℕ) where
   write-down h e = (less p (p .phase) (p .from) (p .to) 0 (p .count) (omega (arith, held-some (p .at) e)), h)
 
   close-down : (z : Stop) → 2 ≤ rank (p .phase) → 70 ≤ length out - p .at → Down (closes p Over z buf out)
-  close-down z h k = (less p Over (p .from) (p .to) 0 (p .count) (omega arith), omega (arith, end-long z (p .count)))
+  close-down z h k = (less p Over (p .from) (p .to) 0 (p .count) (omega arith), omega (arith, foot-long (p .total) z (p .count)))
 
   tell-down : (line : List ℕ) → 2 ≤ rank (p .phase) → length line ≤ length out → Down (tells p line buf out)
   tell-down line h k = (less p Over (p .from) (p .to) 0 (p .count) (omega arith), k)
@@ -155,8 +157,11 @@ module _ (p : Place) (st : State) (buf out : List ℕ) (low-bytes : p .from ≤ 
   abbrev count : ℕ
   count = p .count + length (reading .records)
 
+  abbrev total : Total
+  total = totalFrom (p .total) (unscaled (reading .records))
+
   abbrev next : Place
-  next = movedTo p (Records (reading .state)) (p .from + reading .consumed) (p .to) (p .at + text) count
+  next = totalled (movedTo p (Records (reading .state)) (p .from + reading .consumed) (p .to) (p .at + text) count) total
 
   text-fits : text ≤ length out - p .at
   text-fits = lines-fit (length out - p .at) (length out - p .at) (p .last) st (atHand buf p)
@@ -165,9 +170,9 @@ module _ (p : Place) (st : State) (buf out : List ℕ) (low-bytes : p .from ≤ 
   some-taken = omega (arith, read-inside (length out - p .at) (length out - p .at) (p .last) st (atHand buf p), hand-long p buf low-bytes filled)
 
   close-behind : (ph : Phase) (from : ℕ) (y z : Stop) → rank ph < 4 → p .to - from ≤ p .to - p .from → reading .closing ≡ stopped y →
-      (weight (movedTo p ph from (p .to) 0 count) < weight p) × (p .at + text + length (endLine z count) ≤ length out)
+      (weight (movedTo p ph from (p .to) 0 count) < weight p) × (p .at + text + length (totalLine total ++ endLine z count) ≤ length out)
   close-behind ph from y z h k e =
-      (less p ph from (p .to) 0 count (omega arith), omega (arith, read-room (length out - p .at) (length out - p .at) (p .last) st (atHand buf p) e, end-long z count))
+      (less p ph from (p .to) 0 count (omega arith), omega (arith, read-room (length out - p .at) (length out - p .at) (p .last) st (atHand buf p) e, foot-long total z count))
 
   refill-behind : (new : List ℕ) → reading .closing ≡ stopped moreBytes → Down p buf out (refills next buf new)
   refill-behind new e =
@@ -202,7 +207,7 @@ module _ (p : Place) (st : State) (buf out : List ℕ) (low-bytes : p .from ≤ 
 
 module _ (p : Place) (kind : ℕ) (buf out : List ℕ) (i : Inside p buf out) (at-header : rank (p .phase) ≡ 7) (room : 70 ≤ length out - p .at) (h : Header) (n : ℕ) (within : n ≤ p .to - p .from) where
   abbrev opened : Place
-  opened = movedTo p (Records (begins kind h)) (p .from + n) (p .to) (p .at + length (headerText h)) (p .count)
+  opened = totalled (movedTo p (Records (begins kind h)) (p .from + n) (p .to) (p .at + length (headerText h)) (p .count)) (firstTotal kind)
 
   abbrev headed : List ℕ
   headed = putAt (p .at) (headerText h) out
@@ -215,8 +220,8 @@ module _ (p : Place) (kind : ℕ) (buf out : List ℕ) (i : Inside p buf out) (a
   unfolding logsRecords linesOf
   full-down k =
       subst (λ g. Down p buf out (behind opened (begins kind h) buf headed g)) (sym (no-room (length headed - opened .at) (length headed - opened .at) (p .last) (begins kind h) (atHand buf opened) k))
-      (by-test p buf out (ltb most (p .count + 0)) (writes (movedTo p TooLong (p .from + n + 0) (p .to) (opened .at + 0) (p .count)) TooLong buf (putAt (opened .at) [] headed))
-      (writes (movedTo p (Records (begins kind h)) (p .from + n + 0) (p .to) (opened .at + 0) (p .count + 0)) (Records (begins kind h)) buf (putAt (opened .at) [] headed))
+      (by-test p buf out (ltb most (p .count + 0)) (writes (movedTo opened TooLong (p .from + n + 0) (p .to) (opened .at + 0) (p .count)) TooLong buf (putAt (opened .at) [] headed))
+      (writes (movedTo opened (Records (begins kind h)) (p .from + n + 0) (p .to) (opened .at + 0) (p .count + 0)) (Records (begins kind h)) buf (putAt (opened .at) [] headed))
       (λ t. (less p TooLong (p .from + n + 0) (p .to) 0 (p .count) (omega arith), omega (arith, header-long h)))
       (λ t. (less p (Records (begins kind h)) (p .from + n + 0) (p .to) 0 (p .count + 0) (omega arith), omega (arith, header-long h))))
 
@@ -279,7 +284,7 @@ came-less TooLong q k new e h m = grown-less q (q .phase) (q .from) k h m (omega
 came-less Over q k new e h m = grown-less q (q .phase) (q .from) k h m (omega arith) (omega arith)
 
 abbrev told : Place → Place
-told q = record { phase = q .phase; from = q .from; to = q .to; last = true; at = q .at; count = q .count; came = q .came }
+told q = record { phase = q .phase; from = q .from; to = q .to; last = true; at = q .at; count = q .count; total = q .total; came = q .came }
 
 told-less : (q : Place) → q .last ≡ false → weight (told q) < weight q
 told-less q e = omega (arith, before (q .last) e)

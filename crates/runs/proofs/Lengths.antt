@@ -8,6 +8,9 @@ use lib.Dec.{eqb}
 use lib.Ieee.{Float}
 use lib.ListN.{length, take, drop, length-append, length-drop}
 use lib.Seq.{length-take-le}
+use lib.IntN.{pos, negsuc}
+use Rattle.sums.specs.declared.Total.{Total}
+use Rattle.sums.specs.declared.Total.the-variants.{Absent, Amount, Refused}
 use Rattle.rules.specs.Rule.{Stop, refused, finished, moreBytes}
 use Rattle.metadata.specs.Metadata.{Header}
 use Rattle.floats.specs.Doubles.{bitsOf}
@@ -18,7 +21,7 @@ use Rattle.streams.specs.declared.Record.{Record}
 use Rattle.streams.specs.declared.Record.the-variants.{Trace, Mass, Spectrum}
 use Rattle.digits.specs.Numbers.{places, decimal, number}
 use Rattle.digits.proofs.Digits.{length-digits, places-low}
-use Rattle.lines.specs.Lines.{bitsText, doubleText, valuesText, pointLine, recordLine, answerText, endLine}
+use Rattle.lines.specs.Lines.{bitsText, doubleText, valuesText, pointLine, recordLine, totalLine, answerText, endLine}
 use Rattle.lines.specs.Left.{ascii, behindText, moreText, scanText, leftLine, tooLongLine}
 use Rattle.log.specs.Log.{headerText}
 use Rattle.log.specs.Runs.{linesOf, readInto}
@@ -63,8 +66,18 @@ answer-long finished = number-long 0 32
 answer-long (refused c) = number-long c 32
 answer-long moreBytes = omega arith
 
-pub end-long : (z : Stop) (count : ℕ) → length (endLine z count) ≤ 44
+end-long : (z : Stop) (count : ℕ) → length (endLine z count) ≤ 44
 end-long z count = omega (arith, length-append (answerText z) (number count 10), answer-long z, number-long count 10)
+
+pub total-long : (t : Total) → length (totalLine t) ≤ 24
+total-long Absent = omega arith
+total-long (Refused c) = omega arith
+total-long (Amount (pos n)) = omega (arith, number-long n 10)
+total-long (Amount (negsuc n)) = omega (arith, number-long (suc n) 10)
+
+-- t and e
+pub foot-long : (t : Total) (z : Stop) (count : ℕ) → length (totalLine t ++ endLine z count) ≤ 68
+foot-long t z count = omega (arith, length-append (totalLine t) (endLine z count), total-long t, end-long z count)
 
 -- ---- lines on standard error
 

@@ -2,3 +2,4 @@ pub mod Lengths
 pub mod Falls
 mod Ends
 mod Owes
+mod There

@@ -16,56 +16,90 @@ use Rattle.rules.proofs.Laws.{got≢stops, taken-within}
 use Rattle.metadata.specs.Metadata.{Header, openRule}
 use Rattle.opening.specs.Opening.{begins}
 use Rattle.chemstation.specs.Next.{rule}
+use Rattle.streams.specs.Next.{unscaledOf}
 use Rattle.streams.specs.declared.State.{State}
 use Rattle.streams.specs.declared.Record.{Record}
 use Rattle.digits.specs.Numbers.{kindOf}
-use Rattle.lines.specs.Lines.{recordLine, endLine}
+use Rattle.sums.specs.Sums.{plus, totalFrom}
+use Rattle.sums.specs.declared.Total.{Total}
+use Rattle.sums.specs.declared.Total.the-variants.{Absent}
+use Rattle.lines.specs.Lines.{recordLine, totalLine, endLine}
 use Rattle.lines.specs.Left.{leftLine}
-use Rattle.log.specs.Runs.{linesOf, goOnBy, readInto, logged}
-use Rattle.log.specs.Log.{inBuffer, RestOf, headerText, LogOf}
+use Rattle.log.specs.Runs.{linesOf, unscaled, goOnBy, readInto, logged}
+use Rattle.log.specs.Log.{inBuffer, Reads, headerText, firstTotal, footText, LogOf}
 use Rattle.log.proofs.Logs.{read-inside, read-room, read-few, by-step}
-use Rattle.log.proofs.Cuts.{never-waits, Behind, in-buffer, full-waits, rest-step, rest-stop, log-step, log-stop, one-log}
+use Rattle.log.proofs.Cuts.{never-waits, Behind, in-buffer, full-waits, reads-step, reads-stop, log-step, log-stop, one-log}
 use Rattle.places.specs.declared.Phase.{Phase}
 use Rattle.places.specs.declared.Phase.the-variants.{Digit, Header as HeaderOf, Records, Ended, TooLong, Over}
 use Rattle.places.specs.declared.Place.{Place}
 use Rattle.places.specs.declared.Ask.{Ask}
 use Rattle.places.specs.declared.Ask.the-variants as ask
-use Rattle.places.specs.Machine.{most, started, movedTo, over, atHand, putAt, Stepped, writes, closes, tells, refills, fits, goesOn, behind, logsRecords, opens, leaves, closingBytes, isFinished, finishedFrom, scanLeft, afterwards, onceWritten, byPhase, stepOf, tookOf, came, grown}
+use Rattle.places.specs.Machine.{most, started, movedTo, totalled, over, atHand, putAt, Stepped, writes, closes, tells, refills, fits, goesOn, behind, logsRecords, opens, leaves, closingBytes, isFinished, finishedFrom, scanLeft, afterwards, onceWritten, byPhase, stepOf, tookOf, came, grown}
 use Rattle.places.proofs.Steps.{Inside, fits-inside, hand-long}
 use Rattle.runs.specs.Whole.{LogOfInput, no-digit, a-digit, Writes, closed, written, told, taken}
+
+-- ---- the text of a log from a state on
+
+-- with so many records before, and what they add up to: the lines of the records behind it, t and e
+pub record RestOf (size : ℕ) (st : State) (bs : List ℕ) (count : ℕ) (t : Total) (z : Stop) (v : List ℕ) : Type 0 where
+  pub records : List Record
+  pub reads : Reads size st bs records z
+  pub text : v ≡ linesOf records ++ footText t records z (count + length records)
+
+-- where the rule gives a record it begins with its line
+rest-step : {size : ℕ} {cur : State} {left : List ℕ} {c : ℕ} {t : Total} {z : Stop} {u : List ℕ} (x : Item State Record) (n : ℕ) → RestOf size cur left c t z u → inBuffer size (rule cur) left ≡ got x n →
+    (v : List ℕ) × (u ≡ recordLine (x .shows) ++ v) × RestOf size (x .after) (drop n left) (c + 1) (plus t (unscaledOf (x .shows))) z v
+unfolding linesOf
+rest-step {c = c} {t = t} {z = z} x n r e =
+    let p = reads-step x n (r .reads) e in
+    let vs = p .0 in
+    let foot = footText (plus t (unscaledOf (x .shows))) vs z in
+    let many : c + suc (length vs) ≡ c + 1 + length vs = omega arith in (
+      linesOf vs ++ foot (c + 1 + length vs),
+      r .text ∙ ap (λ rs. linesOf rs ++ footText t rs z (c + length rs)) (p .1) ∙ append-assoc (recordLine (x .shows)) (linesOf vs) (foot (c + suc (length vs))) ∙ ap (λ m. recordLine (x .shows) ++ (linesOf vs ++ foot m)) many,
+      record { records = vs; reads = p .2; text = refl },
+    )
+
+-- where it stops, t and e are left
+rest-stop : {size : ℕ} {cur : State} {left : List ℕ} {c : ℕ} {t : Total} {z : Stop} {u : List ℕ} (y : Stop) → RestOf size cur left c t z u → inBuffer size (rule cur) left ≡ stops y → u ≡ totalLine t ++ endLine y c
+unfolding linesOf
+rest-stop {c = c} {t = t} {z = z} y r e =
+    let p = reads-stop y (r .reads) e in
+    r .text ∙ ap₂ (λ rs w. linesOf rs ++ footText t rs w (c + length rs)) (p .0) (p .1) ∙ ap (λ m. totalLine t ++ endLine y m) (add-zero c)
 
 -- ---- records read from what is at hand
 
 -- a log through the buffer where the records at hand are read: their lines, and what is owed behind them
-pub record Through (size : ℕ) (G : List ℕ) (bs : List ℕ) (c : ℕ) (z : Stop) (v : List ℕ) (g : Reading State Record) : Type 0 where
+pub record Through (size : ℕ) (G : List ℕ) (bs : List ℕ) (c : ℕ) (t : Total) (z : Stop) (v : List ℕ) (g : Reading State Record) : Type 0 where
   pub rest : List ℕ
   pub lines : v ≡ linesOf (g .records) ++ rest
-  pub owed : RestOf size (g .state) (drop (g .consumed) bs ++ G) (c + length (g .records)) z rest
+  pub owed : RestOf size (g .state) (drop (g .consumed) bs ++ G) (c + length (g .records)) (totalFrom t (unscaled (g .records))) z rest
 
 smaller : (last : Bool) (size : ℕ) (bs G : List ℕ) (n : ℕ) → Behind last size bs G → Behind last size (drop n bs) G
 smaller last size bs G n b = record { held = omega (arith, b .held, length-drop n bs); told = λ e. (b .told e .0, omega (arith, b .told e .1, length-drop n bs)) }
 
-through : (most room size : ℕ) (last : Bool) (G : List ℕ) (st : State) (bs : List ℕ) (c : ℕ) (z : Stop) (v : List ℕ) → Behind last size bs G → RestOf size st (bs ++ G) c z v →
-    Through size G bs c z v (readInto most room last st bs)
+through : (most room size : ℕ) (last : Bool) (G : List ℕ) (st : State) (bs : List ℕ) (c : ℕ) (t : Total) (z : Stop) (v : List ℕ) → Behind last size bs G → RestOf size st (bs ++ G) c t z v →
+    Through size G bs c t z v (readInto most room last st bs)
 unfolding readInto linesOf
-through zero room size last G st bs c z v b r = record { rest = v; lines = refl; owed = subst (λ n. RestOf size st (bs ++ G) n z v) (sym (add-zero c)) r }
-through (suc most) room size last G st bs c z v b r =
-    by-step most room last st bs _ (Through size G bs c z v) (λ h. none full) (λ y h e. none (stopped y))
+through zero room size last G st bs c t z v b r = record { rest = v; lines = refl; owed = subst (λ n. RestOf size st (bs ++ G) n t z v) (sym (add-zero c)) r }
+through (suc most) room size last G st bs c t z v b r =
+    by-step most room last st bs _ (Through size G bs c t z v) (λ h. none full) (λ y h e. none (stopped y))
     (λ x n h e.
     let within = taken-within last (rule st) bs e in
     let here = in-buffer last size (rule st) bs G (got x n) b e (λ q. got≢stops q) in
     let s = rest-step x n r here in
     let left = drop-append-le n bs G within in
     let g = readInto most (room - length (recordLine (x .shows))) last (x .after) (drop n bs) in
-    let t = through most (room - length (recordLine (x .shows))) size last G (x .after) (drop n bs) (c + 1) z (s .0) (smaller last size bs G n b) (subst (λ l. RestOf size (x .after) l (c + 1) z (s .0)) left (s .2)) in
+    let u = plus t (unscaledOf (x .shows)) in
+    let w = through most (room - length (recordLine (x .shows))) size last G (x .after) (drop n bs) (c + 1) u z (s .0) (smaller last size bs G n b) (subst (λ l. RestOf size (x .after) l (c + 1) u z (s .0)) left (s .2)) in
     record {
-      rest = t .rest;
-      lines = s .1 ∙ ap (λ l. recordLine (x .shows) ++ l) (t .lines) ∙ sym (append-assoc (recordLine (x .shows)) (linesOf (g .records)) (t .rest));
-      owed = subst₂ (λ l m. RestOf size (g .state) (l ++ G) m z (t .rest)) (drop-drop (g .consumed) n bs) (let m : c + 1 + length (g .records) ≡ c + suc (length (g .records)) = omega arith in m) (t .owed);
+      rest = w .rest;
+      lines = s .1 ∙ ap (λ l. recordLine (x .shows) ++ l) (w .lines) ∙ sym (append-assoc (recordLine (x .shows)) (linesOf (g .records)) (w .rest));
+      owed = subst₂ (λ l m. RestOf size (g .state) (l ++ G) m (totalFrom u (unscaled (g .records))) z (w .rest)) (drop-drop (g .consumed) n bs) (let m : c + 1 + length (g .records) ≡ c + suc (length (g .records)) = omega arith in m) (w .owed);
     })
   where
-    none : (a : Answer) → Through size G bs c z v (nothing st a)
-    none a = record { rest = v; lines = refl; owed = subst (λ n. RestOf size st (bs ++ G) n z v) (sym (add-zero c)) r }
+    none : (a : Answer) → Through size G bs c t z v (nothing st a)
+    none a = record { rest = v; lines = refl; owed = subst (λ n. RestOf size st (bs ++ G) n t z v) (sym (add-zero c)) r }
 
 -- ---- what is owed
 
@@ -77,19 +111,19 @@ pub record Kept (size : ℕ) (p : Place) (buf out input : List ℕ) : Type 0 whe
   pub few : p .count + (p .to - p .from) ≤ p .came
 
 -- behind what stands in the output buffer
-abbrev pub Owed : ℕ → Phase → ℕ → List ℕ → List ℕ → List ℕ → Type 0
-Owed size Digit count hand input v = (count ≡ 0) × LogOfInput size input v
-Owed size (HeaderOf kind) count hand input v = (count ≡ 0) × (z : Stop) × LogOf size kind (hand ++ input) z v
-Owed size (Records st) count hand input v = (z : Stop) × RestOf size st (hand ++ input) count z v
-Owed size (Ended all due) count hand input v = v ≡ []
-Owed size TooLong count hand input v = ⊥
-Owed size Over count hand input v = v ≡ []
+abbrev pub Owed : ℕ → Phase → ℕ → Total → List ℕ → List ℕ → List ℕ → Type 0
+Owed size Digit count t hand input v = (count ≡ 0) × (t ≡ Absent) × LogOfInput size input v
+Owed size (HeaderOf kind) count t hand input v = (count ≡ 0) × (t ≡ Absent) × (z : Stop) × LogOf size kind (hand ++ input) z v
+Owed size (Records st) count t hand input v = (z : Stop) × RestOf size st (hand ++ input) count t z v
+Owed size (Ended all due) count t hand input v = v ≡ []
+Owed size TooLong count t hand input v = ⊥
+Owed size Over count t hand input v = v ≡ []
 
 pub record Owes (size : ℕ) (p : Place) (buf out input u : List ℕ) : Type 0 where
   pub kept : Kept size p buf out input
   pub rest : List ℕ
   pub text : u ≡ take (p .at) out ++ rest
-  pub owed : Owed size (p .phase) (p .count) (atHand buf p) input rest
+  pub owed : Owed size (p .phase) (p .count) (p .total) (atHand buf p) input rest
 
 -- what a step leads to
 abbrev pub Continues : ℕ → Ask → List ℕ → List ℕ → List ℕ → List ℕ → Type 0
@@ -131,11 +165,11 @@ module _ (size : ℕ) (input u : List ℕ) where
         },
       )
 
-  -- the closing line is written, and nothing is owed
-  close-on : (p : Place) (phase : Phase) (z : Stop) (buf out : List ℕ) → Kept size p buf out input → u ≡ take (p .at) out ++ endLine z (p .count) → Owed size phase (p .count) (atHand buf p) input [] → On (closes p phase z buf out)
+  -- the t line and the closing line are written, and nothing is owed
+  close-on : (p : Place) (phase : Phase) (z : Stop) (buf out : List ℕ) → Kept size p buf out input → u ≡ take (p .at) out ++ (totalLine (p .total) ++ endLine z (p .count)) → Owed size phase (p .count) (p .total) (atHand buf p) input [] → On (closes p phase z buf out)
   close-on p phase z buf out k e d =
       let i = k .inside in
-      let line = endLine z (p .count) in (
+      let line = totalLine (p .total) ++ endLine z (p .count) in (
         [],
         e ∙ sym (take-put (p .at) line out (i .room)) ∙ sym (append-nil _),
         record {
@@ -156,7 +190,7 @@ module _ (size : ℕ) (input u : List ℕ) where
   hand-movedTo : (p : Place) (buf : List ℕ) → p .from ≤ p .to → p .to ≤ length buf → take (p .to - p .from - 0) (drop 0 (atHand buf p ++ drop (p .to - p .from) buf)) ≡ atHand buf p
   hand-movedTo p buf h k = let e : p .to - p .from - 0 ≡ p .to - p .from = omega arith in ap (λ n. take n (atHand buf p ++ drop (p .to - p .from) buf)) e ∙ take-at (atHand buf p) (drop (p .to - p .from) buf) (p .to - p .from) (hand-long p buf h k)
 
-  refill-on : (p : Place) (buf out : List ℕ) → Owes size p buf out input u → p .last ≡ false → (length (atHand buf p) ≡ size → (rest : List ℕ) → Owed size (p .phase) (p .count) (atHand buf p) input rest → rest ≡ endLine moreBytes (p .count)) →
+  refill-on : (p : Place) (buf out : List ℕ) → Owes size p buf out input u → p .last ≡ false → (length (atHand buf p) ≡ size → (rest : List ℕ) → Owed size (p .phase) (p .count) (p .total) (atHand buf p) input rest → rest ≡ totalLine (p .total) ++ endLine moreBytes (p .count)) →
       On (refills p buf out)
   refill-on p buf out o l f =
       let k = o .kept in
@@ -178,7 +212,7 @@ module _ (size : ℕ) (input u : List ℕ) where
           };
           rest = o .rest;
           text = o .text;
-          owed = subst (λ h. Owed size (p .phase) (p .count) h input (o .rest)) (sym back) (o .owed);
+          owed = subst (λ h. Owed size (p .phase) (p .count) (p .total) h input (o .rest)) (sym back) (o .owed);
         },
         refl,
         l,
@@ -249,6 +283,10 @@ module _ (size : ℕ) (input u : List ℕ) where
         few = omega (arith, k .few);
       }
 
+  -- the same place but for the total
+  kept-total : {q : Place} {buf out : List ℕ} (t : Total) → Kept size q buf out input → Kept size (totalled q t) buf out input
+  kept-total t k = let i = k .inside in record { whole = k .whole; inside = record { low = i .low; filled = i .filled; room = i .room; some = i .some; line = i .line }; held = k .held; came = k .came; few = k .few }
+
   -- by the answer, at a place where the records at hand are logged
   goes-on : (q : Place) (st : State) (a : Answer) (buf out : List ℕ) → Owes size q buf out input u → q .phase ≡ Records st → ((y : Stop) → a ≡ stopped y → read (q .last) (rule st) (atHand buf q) ≡ stops y) →
       Continues size (goesOn q st a buf out .answer) (goesOn q st a buf out .buf) (goesOn q st a buf out .out) input u
@@ -257,13 +295,13 @@ module _ (size : ℕ) (input u : List ℕ) where
       let waits = r moreBytes refl in
       let l = not-last (q .last) (rule st) (atHand buf q) waits in
       refill-on size input u q buf out o l
-      (λ h rest w. let d : Owed size (Records st) (q .count) (atHand buf q) input rest = subst (λ x. Owed size x (q .count) (atHand buf q) input rest) e w in rest-stop moreBytes (d .1) (full-waits size (rule st) (atHand buf q) input h (subst (λ b. read b (rule st) (atHand buf q) ≡ stops moreBytes) l waits)))
+      (λ h rest w. let d : Owed size (Records st) (q .count) (q .total) (atHand buf q) input rest = subst (λ x. Owed size x (q .count) (q .total) (atHand buf q) input rest) e w in rest-stop moreBytes (d .1) (full-waits size (rule st) (atHand buf q) input h (subst (λ b. read b (rule st) (atHand buf q) ≡ stops moreBytes) l waits)))
   goes-on q st (stopped (refused c)) buf out o e r =
-      let d : Owed size (Records st) (q .count) (atHand buf q) input (o .rest) = subst (λ x. Owed size x (q .count) (atHand buf q) input (o .rest)) e (o .owed) in
+      let d : Owed size (Records st) (q .count) (q .total) (atHand buf q) input (o .rest) = subst (λ x. Owed size x (q .count) (q .total) (atHand buf q) input (o .rest)) e (o .owed) in
       let s = rest-stop (refused c) (d .1) (in-buffer (q .last) size (rule st) (atHand buf q) input (stops (refused c)) (o .kept .held) (r (refused c) refl) (stops-so (refused c) (λ x. false≢true cc))) in
       close-on size input u q Over (refused c) buf out (o .kept) (o .text ∙ ap (λ v. take (q .at) out ++ v) s) refl
   goes-on q st (stopped finished) buf out o e r =
-      let d : Owed size (Records st) (q .count) (atHand buf q) input (o .rest) = subst (λ x. Owed size x (q .count) (atHand buf q) input (o .rest)) e (o .owed) in
+      let d : Owed size (Records st) (q .count) (q .total) (atHand buf q) input (o .rest) = subst (λ x. Owed size x (q .count) (q .total) (atHand buf q) input (o .rest)) e (o .owed) in
       let s = rest-stop finished (d .1) (in-buffer (q .last) size (rule st) (atHand buf q) input (stops finished) (o .kept .held) (r finished refl) (stops-so finished (λ x. false≢true cc))) in
       let k = o .kept in
       let i = k .inside in
@@ -280,7 +318,7 @@ module _ (size : ℕ) (input u : List ℕ) where
       })
       (o .text ∙ ap (λ v. take (q .at) out ++ v) s) refl
 
-  records-on : (st : State) (p : Place) (buf out rest : List ℕ) (z : Stop) → Kept size p buf out input → u ≡ take (p .at) out ++ rest → RestOf size st (atHand buf p ++ input) (p .count) z rest →
+  records-on : (st : State) (p : Place) (buf out rest : List ℕ) (z : Stop) → Kept size p buf out input → u ≡ take (p .at) out ++ rest → RestOf size st (atHand buf p ++ input) (p .count) (p .total) z rest →
       Continues size (logsRecords st p buf out .answer) (logsRecords st p buf out .buf) (logsRecords st p buf out .out) input u
   unfolding logsRecords
   records-on st p buf out rest z k e r =
@@ -290,18 +328,19 @@ module _ (size : ℕ) (input u : List ℕ) where
       let hand = hand-long p buf (i .low) (i .filled) in
       let inside = read-inside room room (p .last) st (atHand buf p) in
       let few = read-few room room (p .last) st (atHand buf p) in
-      let t = through room room size (p .last) input st (atHand buf p) (p .count) z rest (k .held) r in
+      let t = through room room size (p .last) input st (atHand buf p) (p .count) (p .total) z rest (k .held) r in
+      let total = totalFrom (p .total) (unscaled (g .records)) in
       let count : p .count + length (g .records) ≤ most = omega (arith, k .few, k .came) in
       let left = hand-after p buf (g .consumed) (i .low) (i .filled) (omega arith) in
       cond-on size input u (ltb most (p .count + length (g .records))) _ _
       (λ b. absurd (omega (arith, ltb-true most (p .count + length (g .records)) b)))
       (λ b.
-      goes-on (movedTo p (Records (g .state)) (p .from + g .consumed) (p .to) (p .at + length (linesOf (g .records))) (p .count + length (g .records))) (g .state) (g .closing) buf (putAt (p .at) (linesOf (g .records)) out)
+      goes-on (totalled (movedTo p (Records (g .state)) (p .from + g .consumed) (p .to) (p .at + length (linesOf (g .records))) (p .count + length (g .records))) total) (g .state) (g .closing) buf (putAt (p .at) (linesOf (g .records)) out)
       (record {
-        kept = kept-on p buf out (linesOf (g .records)) (g .consumed) (length (g .records)) (Records (g .state)) k (omega arith) (omega (arith, k .few));
+        kept = kept-total total (kept-on p buf out (linesOf (g .records)) (g .consumed) (length (g .records)) (Records (g .state)) k (omega arith) (omega (arith, k .few)));
         rest = t .rest;
         text = e ∙ ap (λ v. take (p .at) out ++ v) (t .lines) ∙ sym (append-assoc (take (p .at) out) (linesOf (g .records)) (t .rest)) ∙ ap (λ v. v ++ t .rest) (sym (take-put (p .at) (linesOf (g .records)) out (i .room)));
-        owed = (z, subst (λ l. RestOf size (g .state) (l ++ input) (p .count + length (g .records)) z (t .rest)) (sym left) (t .owed));
+        owed = (z, subst (λ l. RestOf size (g .state) (l ++ input) (p .count + length (g .records)) total z (t .rest)) (sym left) (t .owed));
       })
       refl
       (λ y c. ap (read (p .last) (rule (g .state))) left ∙ stopped-at room room (p .last) st (atHand buf p) y c))
@@ -309,9 +348,13 @@ module _ (size : ℕ) (input u : List ℕ) where
 -- ---- the header, the digit, and behind the log
 
 module _ (size : ℕ) (input u : List ℕ) where
-  header-on : (kind : ℕ) (p : Place) (buf out rest : List ℕ) (z : Stop) → Owes size p buf out input u → p .phase ≡ HeaderOf kind → p .count ≡ 0 → u ≡ take (p .at) out ++ rest → LogOf size kind (atHand buf p ++ input) z rest →
+  -- before the first record e stands alone
+  unsummed : (z : Stop) {t : Total} {n : ℕ} → t ≡ Absent → n ≡ 0 → endLine z 0 ≡ totalLine t ++ endLine z n
+  unsummed z a c = ap₂ (λ t n. totalLine t ++ endLine z n) (sym a) (sym c)
+
+  header-on : (kind : ℕ) (p : Place) (buf out rest : List ℕ) (z : Stop) → Owes size p buf out input u → p .phase ≡ HeaderOf kind → p .count ≡ 0 → p .total ≡ Absent → u ≡ take (p .at) out ++ rest → LogOf size kind (atHand buf p ++ input) z rest →
       (x : Read Header) → read (p .last) (openRule kind) (atHand buf p) ≡ x → Continues size (opens kind p buf out x .answer) (opens kind p buf out x .buf) (opens kind p buf out x .out) input u
-  header-on kind p buf out rest z o ph c e l (got h n) r =
+  header-on kind p buf out rest z o ph c a e l (got h n) r =
       let k = o .kept in
       let i = k .inside in
       let within = taken-within (p .last) (openRule kind) (atHand buf p) r in
@@ -319,22 +362,25 @@ module _ (size : ℕ) (input u : List ℕ) where
       let s = log-step h n l (in-buffer (p .last) size (openRule kind) (atHand buf p) input (got h n) (k .held) r (λ q. got≢stops q)) in
       let left = hand-after p buf n (i .low) (i .filled) (omega arith) in
       let q = movedTo p (Records (begins kind h)) (p .from + n) (p .to) (p .at + length (headerText h)) (p .count) in
+      let v = linesOf (s .0) ++ footText (firstTotal kind) (s .0) z (length (s .0)) in
       let kept : Kept size q buf (putAt (p .at) (headerText h) out) input =
       subst (λ m. Kept size (movedTo p (Records (begins kind h)) (p .from + n) (p .to) (p .at + length (headerText h)) m) buf (putAt (p .at) (headerText h) out) input) (add-zero (p .count)) (kept-on size input u p buf out (headerText h) n 0 (Records (begins kind h)) k (omega arith) (omega (arith, k .few))) in
-      records-on size input u (begins kind h) q buf (putAt (p .at) (headerText h) out) (s .0) z kept
-      (e ∙ ap (λ v. take (p .at) out ++ v) (s .1) ∙ sym (append-assoc (take (p .at) out) (headerText h) (s .0)) ∙ ap (λ v. v ++ s .0) (sym (take-put (p .at) (headerText h) out (i .room))))
-      (subst₂ (λ b m. RestOf size (begins kind h) b m z (s .0)) (drop-append-le n (atHand buf p) input within ∙ ap (λ b. b ++ input) (sym left)) (sym c) (s .2))
-  header-on kind p buf out rest z o ph c e l (stops moreBytes) r =
+      let behind = drop-append-le n (atHand buf p) input within ∙ ap (λ b. b ++ input) (sym left) in
+      let many : length (s .0) ≡ p .count + length (s .0) = omega (arith, c) in
+      records-on size input u (begins kind h) (totalled q (firstTotal kind)) buf (putAt (p .at) (headerText h) out) v z (kept-total size input u (firstTotal kind) kept)
+      (e ∙ ap (λ v. take (p .at) out ++ v) (s .1) ∙ sym (append-assoc (take (p .at) out) (headerText h) v) ∙ ap (λ w. w ++ v) (sym (take-put (p .at) (headerText h) out (i .room))))
+      record { records = s .0; reads = subst (λ b. Reads size (begins kind h) b (s .0) z) behind (s .2); text = ap (λ m. linesOf (s .0) ++ footText (firstTotal kind) (s .0) z m) many }
+  header-on kind p buf out rest z o ph c a e l (stops moreBytes) r =
       let b = not-last (p .last) (openRule kind) (atHand buf p) r in
       refill-on size input u p buf out o b
-      (λ h v w. let d : Owed size (HeaderOf kind) (p .count) (atHand buf p) input v = subst (λ x. Owed size x (p .count) (atHand buf p) input v) ph w in
-      log-stop moreBytes (d .2) (full-waits size (openRule kind) (atHand buf p) input h (subst (λ b. read b (openRule kind) (atHand buf p) ≡ stops moreBytes) b r)) ∙ ap (endLine moreBytes) (sym c))
-  header-on kind p buf out rest z o ph c e l (stops (refused y)) r =
+      (λ h v w. let d : Owed size (HeaderOf kind) (p .count) (p .total) (atHand buf p) input v = subst (λ x. Owed size x (p .count) (p .total) (atHand buf p) input v) ph w in
+      log-stop moreBytes (d .3) (full-waits size (openRule kind) (atHand buf p) input h (subst (λ b. read b (openRule kind) (atHand buf p) ≡ stops moreBytes) b r)) ∙ unsummed moreBytes a c)
+  header-on kind p buf out rest z o ph c a e l (stops (refused y)) r =
       let s = log-stop (refused y) l (in-buffer (p .last) size (openRule kind) (atHand buf p) input (stops (refused y)) (o .kept .held) r (stops-so (refused y) (λ x. false≢true cc))) in
-      close-on size input u p Over (refused y) buf out (o .kept) (e ∙ ap (λ v. take (p .at) out ++ v) (s ∙ ap (endLine (refused y)) (sym c))) refl
-  header-on kind p buf out rest z o ph c e l (stops finished) r =
+      close-on size input u p Over (refused y) buf out (o .kept) (e ∙ ap (λ v. take (p .at) out ++ v) (s ∙ unsummed (refused y) a c)) refl
+  header-on kind p buf out rest z o ph c a e l (stops finished) r =
       let s = log-stop finished l (in-buffer (p .last) size (openRule kind) (atHand buf p) input (stops finished) (o .kept .held) r (stops-so finished (λ x. false≢true cc))) in
-      close-on size input u p Over finished buf out (o .kept) (e ∙ ap (λ v. take (p .at) out ++ v) (s ∙ ap (endLine finished) (sym c))) refl
+      close-on size input u p Over finished buf out (o .kept) (e ∙ ap (λ v. take (p .at) out ++ v) (s ∙ unsummed finished a c)) refl
 
   -- nothing at hand, and a read is due
   emptied : (p : Place) (phase : Phase) (at : ℕ) (buf out : List ℕ) → Kept size p buf out input → at ≤ length out → Kept size (movedTo p phase 0 0 at (p .count)) buf out input
@@ -354,10 +400,10 @@ module _ (size : ℕ) (input u : List ℕ) where
 
   digit-on : (p : Place) (buf out : List ℕ) (o : Owes size p buf out input u) → p .phase ≡ Digit → Continues size (byPhase Digit p buf out .answer) (byPhase Digit p buf out .buf) (byPhase Digit p buf out .out) input u
   digit-on p buf out o ph =
-      let d : Owed size Digit (p .count) (atHand buf p) input (o .rest) = subst (λ x. Owed size x (p .count) (atHand buf p) input (o .rest)) ph (o .owed) in
+      let d : Owed size Digit (p .count) (p .total) (atHand buf p) input (o .rest) = subst (λ x. Owed size x (p .count) (p .total) (atHand buf p) input (o .rest)) ph (o .owed) in
       let k = o .kept in
       cond-on size input u (p .last) _ _
-      (λ b. close-on size input u p Over (refused 1) buf out k (o .text ∙ ap (λ v. take (p .at) out ++ v) (no-digit-so input (o .rest) (k .held .told b .0) (d .1) ∙ ap (endLine (refused 1)) (sym (d .0)))) refl)
+      (λ b. close-on size input u p Over (refused 1) buf out k (o .text ∙ ap (λ v. take (p .at) out ++ v) (no-digit-so input (o .rest) (k .held .told b .0) (d .2) ∙ unsummed (refused 1) (d .1) (d .0))) refl)
       (λ b. (record { kept = emptied p Digit (p .at) buf out k (k .inside .room); rest = o .rest; text = o .text; owed = d }, refl, b, omega (arith, k .whole, k .inside .some)))
 
   or-false : (a b : Bool) → a || b ≡ false → b ≡ false
@@ -394,17 +440,17 @@ module _ (size : ℕ) (input u : List ℕ) where
   phase-on : (phase : Phase) (p : Place) (buf out : List ℕ) (o : Owes size p buf out input u) → p .phase ≡ phase → Continues size (byPhase phase p buf out .answer) (byPhase phase p buf out .buf) (byPhase phase p buf out .out) input u
   phase-on Digit p buf out o e = digit-on p buf out o e
   phase-on (HeaderOf kind) p buf out o e =
-      let d : Owed size (HeaderOf kind) (p .count) (atHand buf p) input (o .rest) = subst (λ x. Owed size x (p .count) (atHand buf p) input (o .rest)) e (o .owed) in
-      header-on kind p buf out (o .rest) (d .1) o e (d .0) (o .text) (d .2) (read (p .last) (openRule kind) (atHand buf p)) refl
+      let d : Owed size (HeaderOf kind) (p .count) (p .total) (atHand buf p) input (o .rest) = subst (λ x. Owed size x (p .count) (p .total) (atHand buf p) input (o .rest)) e (o .owed) in
+      header-on kind p buf out (o .rest) (d .2) o e (d .0) (d .1) (o .text) (d .3) (read (p .last) (openRule kind) (atHand buf p)) refl
   phase-on (Records st) p buf out o e =
-      let d : Owed size (Records st) (p .count) (atHand buf p) input (o .rest) = subst (λ x. Owed size x (p .count) (atHand buf p) input (o .rest)) e (o .owed) in
+      let d : Owed size (Records st) (p .count) (p .total) (atHand buf p) input (o .rest) = subst (λ x. Owed size x (p .count) (p .total) (atHand buf p) input (o .rest)) e (o .owed) in
       records-on size input u st p buf out (o .rest) (d .0) (o .kept) (o .text) (d .1)
   phase-on (Ended all due) p buf out o e =
-      let d : o .rest ≡ [] = subst (λ x. Owed size x (p .count) (atHand buf p) input (o .rest)) e (o .owed) in
+      let d : o .rest ≡ [] = subst (λ x. Owed size x (p .count) (p .total) (atHand buf p) input (o .rest)) e (o .owed) in
       once-on p buf out o (λ f. subst (λ x. Continues size (afterwards x p buf out .answer) (afterwards x p buf out .buf) (afterwards x p buf out .out) input u) (sym e) (leave-on all due p buf out (o .kept) f)) d
-  phase-on TooLong p buf out o e = absurd (subst (λ x. Owed size x (p .count) (atHand buf p) input (o .rest)) e (o .owed))
+  phase-on TooLong p buf out o e = absurd (subst (λ x. Owed size x (p .count) (p .total) (atHand buf p) input (o .rest)) e (o .owed))
   phase-on Over p buf out o e =
-      let d : o .rest ≡ [] = subst (λ x. Owed size x (p .count) (atHand buf p) input (o .rest)) e (o .owed) in
+      let d : o .rest ≡ [] = subst (λ x. Owed size x (p .count) (p .total) (atHand buf p) input (o .rest)) e (o .owed) in
       once-on p buf out o (λ f. subst (λ x. Continues size (afterwards x p buf out .answer) (afterwards x p buf out .buf) (afterwards x p buf out .out) input u) (sym e) f) d
 
   inside-fits : (p : Place) (buf out : List ℕ) → Inside p buf out → fits p buf out ≡ true
@@ -447,7 +493,7 @@ module _ (size : ℕ) (q : Place) (buf out part rest new u : List ℕ) (o : Owes
 
   -- the place where a part has come, if what is owed there is known
   grown-on : (phase : Phase) (from : ℕ) (hand : List ℕ) → from ≤ q .to + length part → q .count + (q .to + length part - from) ≤ q .came + length part → take (q .to + length part - from) (drop from new) ≡ hand →
-      Owed size phase (q .count) hand rest (o .rest) → Owes size (grown q phase from (length part)) new out rest u
+      Owed size phase (q .count) (q .total) hand rest (o .rest) → Owes size (grown q phase from (length part)) new out rest u
   grown-on phase from hand low few e d =
       let p = grown q phase from (length part) in
       let long = hand-long p new low (omega (arith, i .filled)) in
@@ -461,11 +507,11 @@ module _ (size : ℕ) (q : Place) (buf out part rest new u : List ℕ) (o : Owes
         };
         rest = o .rest;
         text = o .text;
-        owed = subst (λ h. Owed size phase (q .count) h rest (o .rest)) (sym e) d;
+        owed = subst (λ h. Owed size phase (q .count) (q .total) h rest (o .rest)) (sym e) d;
       }
 
   -- another phase than the digit's: the part stands behind the bytes at hand
-  more-on : (phase : Phase) → Owed size phase (q .count) (atHand buf q ++ part) rest (o .rest) → Owes size (grown q phase (q .from) (length part)) new out rest u
+  more-on : (phase : Phase) → Owed size phase (q .count) (q .total) (atHand buf q ++ part) rest (o .rest) → Owes size (grown q phase (q .from) (length part)) new out rest u
   more-on phase d = grown-on phase (q .from) (atHand buf q ++ part) (omega (arith, i .low)) (omega (arith, k .few, i .low)) hand-grown d
 
   cond-place : (b : Bool) (s t : Place) → (b ≡ true → Owes size s new out rest u) → (b ≡ false → Owes size t new out rest u) → Owes size (cond b s t) new out rest u
@@ -476,8 +522,8 @@ module _ (size : ℕ) (q : Place) (buf out part rest new u : List ℕ) (o : Owes
   joined = sym (append-assoc (atHand buf q) part rest)
 
   -- the first byte is the digit
-  digit-comes : Owed size Digit (q .count) (atHand buf q) (part ++ rest) (o .rest) → 0 < length part → Owes size (came Digit q (length part) new) new out rest u
-  digit-comes d h = go part refl (d .1)
+  digit-comes : Owed size Digit (q .count) (q .total) (atHand buf q) (part ++ rest) (o .rest) → 0 < length part → Owes size (came Digit q (length part) new) new out rest u
+  digit-comes d h = go part refl (d .2)
     where
       go : (b : List ℕ) → part ≡ b → LogOfInput size (part ++ rest) (o .rest) → Owes size (came Digit q (length part) new) new out rest u
       go [] e log = absurd (omega (arith, ap length e))
@@ -498,26 +544,26 @@ module _ (size : ℕ) (q : Place) (buf out part rest new u : List ℕ) (o : Owes
           ∙ ap (drop 1) (here ∙ e) in
           let log′ : LogOfInput size (x ∷ (xs ++ rest)) (o .rest) = subst (λ b. LogOfInput size (b ++ rest) (o .rest)) e log in
           grown-on (HeaderOf (kindOf (getD new (q .to) 0))) (q .to + 1) xs (omega (arith, h)) (omega (arith, d .0, h)) others
-          (let w = digit-log x (xs ++ rest) (o .rest) log′ in (d .0, w .0, subst (λ y. LogOf size (kindOf y) (xs ++ rest) (w .0) (o .rest)) (sym first) (w .1)))
+          (let w = digit-log x (xs ++ rest) (o .rest) log′ in (d .0, d .1, w .0, subst (λ y. LogOf size (kindOf y) (xs ++ rest) (w .0) (o .rest)) (sym first) (w .1)))
 
   came-on : (phase : Phase) → q .phase ≡ phase → 0 < length part → Owes size (came phase q (length part) new) new out rest u
-  came-on Digit e h = digit-comes (subst (λ x. Owed size x (q .count) (atHand buf q) (part ++ rest) (o .rest)) e (o .owed)) h
+  came-on Digit e h = digit-comes (subst (λ x. Owed size x (q .count) (q .total) (atHand buf q) (part ++ rest) (o .rest)) e (o .owed)) h
   came-on (HeaderOf kind) e h =
-      let d : Owed size (HeaderOf kind) (q .count) (atHand buf q) (part ++ rest) (o .rest) = subst (λ x. Owed size x (q .count) (atHand buf q) (part ++ rest) (o .rest)) e (o .owed) in
-      more-on (q .phase) (subst (λ x. Owed size x (q .count) (atHand buf q ++ part) rest (o .rest)) (sym e) (d .0, d .1, subst (λ b. LogOf size kind b (d .1) (o .rest)) joined (d .2)))
+      let d : Owed size (HeaderOf kind) (q .count) (q .total) (atHand buf q) (part ++ rest) (o .rest) = subst (λ x. Owed size x (q .count) (q .total) (atHand buf q) (part ++ rest) (o .rest)) e (o .owed) in
+      more-on (q .phase) (subst (λ x. Owed size x (q .count) (q .total) (atHand buf q ++ part) rest (o .rest)) (sym e) (d .0, d .1, d .2, subst (λ b. LogOf size kind b (d .2) (o .rest)) joined (d .3)))
   came-on (Records st) e h =
-      let d : Owed size (Records st) (q .count) (atHand buf q) (part ++ rest) (o .rest) = subst (λ x. Owed size x (q .count) (atHand buf q) (part ++ rest) (o .rest)) e (o .owed) in
-      more-on (q .phase) (subst (λ x. Owed size x (q .count) (atHand buf q ++ part) rest (o .rest)) (sym e) (d .0, subst (λ b. RestOf size st b (q .count) (d .0) (o .rest)) joined (d .1)))
+      let d : Owed size (Records st) (q .count) (q .total) (atHand buf q) (part ++ rest) (o .rest) = subst (λ x. Owed size x (q .count) (q .total) (atHand buf q) (part ++ rest) (o .rest)) e (o .owed) in
+      more-on (q .phase) (subst (λ x. Owed size x (q .count) (q .total) (atHand buf q ++ part) rest (o .rest)) (sym e) (d .0, subst (λ b. RestOf size st b (q .count) (q .total) (d .0) (o .rest)) joined (d .1)))
   came-on (Ended all due) e h =
-      let d : o .rest ≡ [] = subst (λ x. Owed size x (q .count) (atHand buf q) (part ++ rest) (o .rest)) e (o .owed) in
-      more-on (q .phase) (subst (λ x. Owed size x (q .count) (atHand buf q ++ part) rest (o .rest)) (sym e) d)
-  came-on TooLong e h = absurd (subst (λ x. Owed size x (q .count) (atHand buf q) (part ++ rest) (o .rest)) e (o .owed))
+      let d : o .rest ≡ [] = subst (λ x. Owed size x (q .count) (q .total) (atHand buf q) (part ++ rest) (o .rest)) e (o .owed) in
+      more-on (q .phase) (subst (λ x. Owed size x (q .count) (q .total) (atHand buf q ++ part) rest (o .rest)) (sym e) d)
+  came-on TooLong e h = absurd (subst (λ x. Owed size x (q .count) (q .total) (atHand buf q) (part ++ rest) (o .rest)) e (o .owed))
   came-on Over e h =
-      let d : o .rest ≡ [] = subst (λ x. Owed size x (q .count) (atHand buf q) (part ++ rest) (o .rest)) e (o .owed) in
-      more-on (q .phase) (subst (λ x. Owed size x (q .count) (atHand buf q ++ part) rest (o .rest)) (sym e) d)
+      let d : o .rest ≡ [] = subst (λ x. Owed size x (q .count) (q .total) (atHand buf q) (part ++ rest) (o .rest)) e (o .owed) in
+      more-on (q .phase) (subst (λ x. Owed size x (q .count) (q .total) (atHand buf q ++ part) rest (o .rest)) (sym e) d)
 
   -- nothing came: the input has ended
-  ended-on : part ≡ [] → rest ≡ [] → q .to < length buf → Owes size (record { phase = q .phase; from = q .from; to = q .to; last = true; at = q .at; count = q .count; came = q .came }) new out rest u
+  ended-on : part ≡ [] → rest ≡ [] → q .to < length buf → Owes size (record { phase = q .phase; from = q .from; to = q .to; last = true; at = q .at; count = q .count; total = q .total; came = q .came }) new out rest u
   ended-on e f free =
       let none : length part ≡ 0 = ap length e in
       let back : atHand new q ≡ atHand buf q =
@@ -533,7 +579,7 @@ module _ (size : ℕ) (q : Place) (buf out part rest new u : List ℕ) (o : Owes
         };
         rest = o .rest;
         text = o .text;
-        owed = subst₂ (λ h b. Owed size (q .phase) (q .count) h b (o .rest)) (sym back) input (o .owed);
+        owed = subst₂ (λ h b. Owed size (q .phase) (q .count) (q .total) h b (o .rest)) (sym back) input (o .owed);
       }
 
   took-on : (part ≡ [] → rest ≡ []) → q .to < length buf → Owes size (tookOf q (length part) new) new out rest u
@@ -579,7 +625,7 @@ start-owes buf out input u some line fit log = record {
   };
   rest = u;
   text = refl;
-  owed = (refl, log);
+  owed = (refl, refl, log);
 }
 
 log-there : (size : ℕ) (input : List ℕ) → (u : List ℕ) × LogOfInput size input u

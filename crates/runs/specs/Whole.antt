@@ -67,6 +67,8 @@ pub data Ends : Place → List ℕ → List ℕ → List ℕ → Type 0 where
 pub record WholeRuns : Type 0 where
   -- for every input of fewer than 2^64 bytes, however it comes
   pub log : (buf out input t : List ℕ) → 1 ≤ length buf → 128 ≤ length out → length input ≤ most → Writes started buf out input t → LogOfInput (length buf) input t
+  -- and there is such a run, whatever the input
+  pub there : (buf out input : List ℕ) → (t : List ℕ) × Writes started buf out input t
   -- each step asks for what lies in the buffers, and lowers the measure
   pub falls : (p : Place) (buf out : List ℕ) → Falls p buf out (stepOf p buf out .answer)
   pub ends : (p : Place) (buf out input : List ℕ) → Ends p buf out input

@@ -9,6 +9,7 @@ use Rattle.streams.specs.Told.{Made, Told}
 use Rattle.streams.specs.declared.State.{State}
 use Rattle.streams.specs.declared.State.the-variants.{Fid, Ms, Mwd, Dad, Uv, Array}
 use Rattle.streams.specs.declared.Record.{Record}
+use Rattle.streams.specs.declared.Record.the-variants.{Trace, Mass, Spectrum}
 use Rattle.streams.specs.declared.Next.{Next}
 use Rattle.streams.specs.declared.Next.the-variants.{Given, Stopped}
 
@@ -31,6 +32,12 @@ stepped s t = itemOf (t .makes) (after doubles s (t .does))
 -- the rule of a state's next record, by the rule of its fields
 abbrev pub ruleBy : State → Rule Told → Rule (Item State Record)
 ruleBy st fields = mapRule (stepped (sumOf st)) fields
+
+-- a record's unscaled intensity
+abbrev pub unscaledOf : Record → Float
+unscaledOf (Trace t u s) = u
+unscaledOf (Mass t m u s) = u
+unscaledOf (Spectrum t w u s) = u
 
 -- what an answer says
 abbrev pub answerOf : Next → Read (Item State Record)

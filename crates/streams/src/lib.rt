@@ -12,6 +12,7 @@ ghost use Rattle.rules.specs.Rule.{readAt};
 ghost use Rattle.common.specs.Bytes.{orderOf};
 ghost use Rattle.floats.specs.Wholes.{doubles, flat};
 ghost use Rattle.streams.specs.Changes.{changed};
+ghost use Rattle.streams.specs.Next.{unscaledOf};
 ghost use Rattle.streams.specs.Told.{corrected, delta, changeOf, deltaRead};
 
 // Counts still due, never one for another.
@@ -131,6 +132,17 @@ pub enum Next {
     // a record, the state after it and the count of bytes that it took
     Given(Record, State, usize),
     Stopped(Stopped),
+}
+
+// A record's unscaled intensity.
+pub fn unscaled_of(r: Record) -> f64
+    ensures { λ u. ⌜ u ≡ unscaledOf r ⌝ }
+{
+    match r {
+        Record::Trace { unscaled, .. } => unscaled,
+        Record::Mass { unscaled, .. } => unscaled,
+        Record::Spectrum { unscaled, .. } => unscaled,
+    }
 }
 
 // ---- FID and MWD: a trace point

@@ -17,7 +17,7 @@ use Rattle.streams.specs.Changes.{Change, clears, slopes, restarts, changed, af
 use Rattle.streams.specs.Told.{Made, Told, told, isInt, delta, changeOf}
 use Rattle.dad.specs.Dad.{widthOf}
 use Rattle.chemstation.specs.Next.{fields}
-use Rattle.streams.specs.Next.{sumOf}
+use Rattle.streams.specs.Next.{sumOf, unscaledOf}
 use Rattle.fid.specs.Fid.{fidMade, fidRule}
 use Rattle.ms.specs.Ms.{msMade, msValue, msPoint, msScans, msScanning, msRule}
 use Rattle.mwd.specs.Mwd.{mwdPoint, mwdRule}
@@ -25,7 +25,7 @@ use Rattle.dad.specs.Dad.{dadPoint, dadBegun, dadScan, dadOnward, dadScanning, 
 use Rattle.uv.specs.Uv.{uvPoint, uvBegun, uvScan, uvLeft, uvScanning, uvRule}
 use Rattle.array.specs.Array.{arrayMade, stored, arrayRule}
 use Rattle.streams.specs.Next.{stepped}
-use Rattle.whole.specs.Whole.{deltasAfter, summed, Within, unscaledOf}
+use Rattle.whole.specs.Whole.{deltasAfter, summed, Within}
 use Rattle.whole.specs.Readings.{dueOf, Begins}
 use Rattle.streams.specs.declared.ChemstationFidState.{ChemstationFidState}
 use Rattle.streams.specs.declared.ChemstationMsState.{ChemstationMsState}

@@ -2,18 +2,18 @@
 use mathlib.Core.List.{List, [], _∷_, foldl}
 use Prim.Native.Nat.{ℕ, suc, _^_, _≤_}
 use lib.IntN.{ℤ, pos}
-use lib.Ieee.{Float, binary64}
+use lib.Ieee.{binary64}
 use Rattle.rules.specs.Rule.{Rule, mapRule}
 use Rattle.rules.specs.Calls.{Item}
 use Rattle.floats.specs.Doubles.{double}
 use Rattle.floats.specs.Wholes.{IsWhole, Sum, flat, doubles, wholes}
 use Rattle.streams.specs.Changes.{Change, clears, adds, slopes, becomes, restarts, after}
 use Rattle.streams.specs.Told.{Told}
+use Rattle.streams.specs.Next.{unscaledOf}
 use Rattle.chemstation.specs.Next.{fields}
 use Rattle.streams.specs.declared.State.{State}
 use Rattle.streams.specs.declared.State.the-variants.{Fid, Ms, Mwd, Dad, Uv, Array}
 use Rattle.streams.specs.declared.Record.{Record}
-use Rattle.streams.specs.declared.Record.the-variants.{Trace, Mass, Spectrum}
 
 -- ---- in whole numbers
 
@@ -62,11 +62,6 @@ Within (Mwd st) n = n ≤ 2 ^ 32
 Within (Dad st) n = Unit
 Within (Uv st) n = Unit
 Within (Array st) n = ⊥
-
-abbrev pub unscaledOf : Record → Float
-unscaledOf (Trace t u s) = u
-unscaledOf (Mass t m u s) = u
-unscaledOf (Spectrum t w u s) = u
 
 -- a record's unscaled intensity is the added-up value
 abbrev pub Exact : Record → Added → Type 0

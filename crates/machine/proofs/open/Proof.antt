@@ -1,7 +1,8 @@
 -- By the answer; behind a header, the records at hand.
-use mathlib.Core.Path.{ap}
+use mathlib.Core.Path.{ap, _∙_}
 use native.Mathlib.Omega.{arith}
 use Rattle.rules.proofs.Laws.{taken-within}
+use Rattle.places.specs.Machine.{totalled}
 use Rattle.places.proofs.Steps.{put-at, hand-long}
 use Rattle.machine.proofs.Opens.{open-waits, open-finished, open-refused, open-reads, open-runs}
 use borrow.Author.Needs.{needs}
@@ -17,14 +18,17 @@ add-moves c =
 
 log-hand-requires : tie.Need-log-hand-requires
 log-hand-requires c κs =
-    let start = c .before .before .before .before .before .before .before .before .before .before .before .before .before .before .before .before in
+    let t = c .before .before in
+    let h = t .before .before .before .before .before in
+    let o = h .before .before .before .before .before .before in
+    let start = o .before .before .before .before .before in
     let a = start .args in
-    let h = open-reads (a .kind) (a .p) (a .buf .now) (a .out .now) (c .before .before .before .before .before .before .before .before .before .before .before .open-run .ensures) _ _ (c .before .before .before .before .before .before .before .before .answer2 .given .1) in
-    let m = c .before .before .moves .ensures in
-    let p = c .before .before .before .before .before .put-header .ensures in
-    let within = taken-within _ _ _ (h .1) in
+    let reads = open-reads (a .kind) (a .p) (a .buf .now) (a .out .now) (o .open-run .ensures) _ _ (h .before .before .before .answer2 .given .1) in
+    let q = t .totals .ensures ∙ ap (λ x. totalled x (t .before .first-total .result)) (t .before .before .moves .ensures) in
+    let p = h .put-header .ensures in
+    let within = taken-within _ _ _ (reads .1) in
     let hand = hand-long (a .p) (a .buf .now) (start .pre .0) (start .pre .1) in
-    (omega (arith, ap (λ q. q .from) m, ap (λ q. q .to) m), omega (arith, start .pre .1, ap (λ q. q .to) m), omega (arith, ap (λ q. q .at) m, p .0 .fits, p .0 .same))
+    (omega (arith, ap (λ x. x .from) q, ap (λ x. x .to) q), omega (arith, start .pre .1, ap (λ x. x .to) q), omega (arith, ap (λ x. x .at) q, p .0 .fits, p .0 .same))
 
 returns : tie.Need-returns
 returns c = let a = c .before .before .before .before .before .before .before .before .before .before .before .before .before .before .before .before .before .before .args in open-waits (a .kind) (a .p) (a .buf .now) (a .out .now) (c .before .before .before .before .before .before .before .before .before .before .before .before .before .open-run .ensures) _ (c .before .before .before .before .before .before .before .before .before .before .answer .given .1) (c .before .before .before .before .before .before .before .enum-told .given .1) (c .before .before .before .before .refill .ensures)
@@ -37,9 +41,12 @@ returns-3 c = let a = c .before .before .before .before .before .before .before 
 
 returns-4 : tie.Need-returns-4
 returns-4 c =
-    let a = c .before .before .before .before .before .before .before .before .before .before .before .before .before .before .before .before .before .before .before .before .before .args in
-    let p = c .before .before .before .before .before .before .before .before .before .before .put-header .ensures .0 in
-    open-runs (a .kind) (a .p) (a .buf .now) (a .out .now) (c .before .before .before .before .before .before .before .before .before .before .before .before .before .before .before .before .open-run .ensures) _ _ (c .before .before .before .before .before .before .before .before .before .before .before .before .before .answer2 .given .1) _ _ _ (p .next) (put-at p) (c .before .before .before .before .before .before .before .moves .ensures) (c .before .before .before .before .log-hand .ensures)
+    let t = c .before .before .before .before .before .before .before in
+    let h = t .before .before .before .before .before in
+    let o = h .before .before .before .before .before .before in
+    let a = o .before .before .before .before .before .args in
+    let p = h .put-header .ensures .0 in
+    open-runs (a .kind) (a .p) (a .buf .now) (a .out .now) (o .open-run .ensures) _ _ (h .before .before .before .answer2 .given .1) _ _ _ _ _ (p .next) (put-at p) (t .before .before .moves .ensures) (t .totals .ensures) (t .before .first-total .ensures) (c .before .before .before .before .log-hand .ensures)
 
 pub open-spec : {M : Type 1} → statement M
-open-spec = tie.close (tie.spec (λ c. search needs) (λ c. search needs) (λ c. search needs) (λ c κs. search needs) (λ c. search needs) (λ c. search needs) (λ c κs. search needs) (λ c. search needs) (λ c κs. search needs) (λ c. search needs) (λ c κs. search needs) (λ c. search needs) (λ c κs. search needs) add-moves (λ c κs. search needs) log-hand-requires (λ c. search needs) (λ c. search needs) returns (λ c. search needs) (λ c. search needs) returns-2 (λ c. search needs) (λ c. search needs) returns-3 (λ c. search needs) (λ c. search needs) returns-4)
+open-spec = tie.close (tie.spec (λ c. search needs) (λ c. search needs) (λ c. search needs) (λ c κs. search needs) (λ c. search needs) (λ c. search needs) (λ c κs. search needs) (λ c. search needs) (λ c κs. search needs) (λ c. search needs) (λ c κs. search needs) (λ c. search needs) (λ c κs. search needs) add-moves (λ c κs. search needs) (λ c κs. search needs) (λ c κs. search needs) log-hand-requires (λ c. search needs) (λ c. search needs) returns (λ c. search needs) (λ c. search needs) returns-2 (λ c. search needs) (λ c. search needs) returns-3 (λ c. search needs) (λ c. search needs) returns-4)

@@ -1,0 +1,2 @@
+mod Feet
+mod Printed

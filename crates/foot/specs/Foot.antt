@@ -1,0 +1,85 @@
+-- Request 1 within demand 3's bounds: the number at the foot of a log is the sum of the added-up values, in whole numbers never rounded.
+use mathlib.Core.Path.{_≡_}
+use mathlib.Core.Bool.{cond}
+use mathlib.Core.List.{List, [], _∷_, _++_, foldl}
+use Prim.Native.Nat.{ℕ, _^_}
+use lib.Dec.{ltb}
+use lib.IntN.{ℤ, pos, natAbs, _+ℤ_}
+use lib.ListN.{length, drop, replicate}
+use Rattle.rules.specs.Rule.{Stop, finished, got}
+use Rattle.rules.specs.Calls.{byRules}
+use Rattle.common.specs.Bytes.{AreBytes}
+use Rattle.metadata.specs.Metadata.{Header, openRule}
+use Rattle.streams.specs.declared.Record.{Record}
+use Rattle.opening.specs.Opening.{begins}
+use Rattle.whole.specs.Whole.{Added, wholeRule, Within, AllExact}
+use Rattle.demand3.specs.Demand3.{wholeStart}
+use Rattle.sums.specs.Sums.{outOfRange, amount}
+use Rattle.sums.specs.declared.Total.{Total}
+use Rattle.sums.specs.declared.Total.the-variants.{Absent, Amount, Refused}
+use Rattle.lines.specs.Lines.{totalLine, endLine}
+use Rattle.lines.specs.Left.{ascii}
+use Rattle.log.specs.Runs.{linesOf}
+use Rattle.log.specs.Log.{inBuffer, Reads, headerText, LogOf}
+
+-- ---- the added-up values
+
+-- demand 3's, of the first n records of a file
+abbrev pub addedUp : ℕ → ℕ → List ℕ → List Added
+addedUp kind n F = (byRules wholeRule (wholeStart kind) n F) .records
+
+-- each where demand 3 claims that it is the record's double
+abbrev pub AllWithin : List Added → Type 0
+AllWithin [] = Unit
+AllWithin (w ∷ ws) = Within (w .state) (w .deltas) × AllWithin ws
+
+-- ---- their total
+
+-- one more: 17 'where a value's size is 2^53 or more, or the sum after some record leaves 64 bits'
+abbrev pub plusAdded : Total → Added → Total
+plusAdded Absent w = Absent
+plusAdded (Amount a) w = cond (ltb (natAbs (w .value)) (2 ^ 53)) (amount (a +ℤ w .value)) outOfRange
+plusAdded (Refused c) w = Refused c
+
+abbrev pub totalAdded : Total → List Added → Total
+totalAdded t ws = foldl plusAdded t ws
+
+abbrev pub sumAdded : ℤ → List Added → ℤ
+sumAdded a ws = foldl (λ z w. z +ℤ w .value) a ws
+
+-- ---- the theorem
+
+-- what a log is made of where the opening gives a header (`opened-run`)
+pub record OpenedLog (size kind : ℕ) (F : List ℕ) : Type 0 where
+  pub header : Header
+  pub taken : ℕ
+  pub records : List Record
+  pub answer : Stop
+  pub opens : inBuffer size (openRule kind) F ≡ got header taken
+  pub reads : Reads size (begins kind header) (drop taken F) records answer
+
+-- the added-up values of its records
+abbrev pub valuesOf : {size kind : ℕ} {F : List ℕ} → OpenedLog size kind F → List Added
+valuesOf {size} {kind} {F} l = addedUp kind (length (l .records)) F
+
+-- its text, with what those values add up to
+abbrev pub textAdded : {size kind : ℕ} {F : List ℕ} → OpenedLog size kind F → List ℕ
+textAdded l = headerText (l .header) ++ (linesOf (l .records) ++ (totalLine (totalAdded (Amount (pos 0)) (valuesOf l)) ++ endLine (l .answer) (length (l .records))))
+
+-- document 01's printed run: '512 zero bytes but for byte 251 = 2 and 267 = 2, then 00 05 00 02', and its log with request 1's `t 17`
+unfoldable pub printedRun : List ℕ
+printedRun = replicate 251 0 ++ (2 ∷ (replicate 15 0 ++ (2 ∷ (replicate 244 0 ++ (0 ∷ 5 ∷ 0 ∷ 2 ∷ [])))))
+
+unfoldable pub printedLog : List ℕ
+printedLog = ascii "h 2 512\nr 0000000000000000 - 4014000000000000 4014000000000000\nr 3FC999999999999A - 4028000000000000 4028000000000000\nt 17\ne 0 2\n"
+
+pub record FootOfLog : Type 0 where
+  -- the records of a log are demand 3's: each unscaled intensity is its added-up value, as far as that is claimed
+  pub exact : (size kind : ℕ) (F : List ℕ) → AreBytes F → (l : OpenedLog size kind F) → AllExact (l .records) (valuesOf l)
+  -- where it is claimed of all of them, the line t is that of the added-up values
+  pub foot : (size kind : ℕ) (F : List ℕ) → AreBytes F → ¬ (kind ≡ 6) → (l : OpenedLog size kind F) → AllWithin (valuesOf l) → LogOf size kind F (l .answer) (textAdded l)
+  -- and the number in it is their sum
+  pub number : (a z : ℤ) (ws : List Added) → totalAdded (Amount a) ws ≡ Amount z → z ≡ sumAdded a ws
+  -- of document 01's printed run it is so
+  pub printed : LogOf 32768 1 printedRun finished printedLog
+  pub within : AllWithin (addedUp 1 2 printedRun)

@@ -1,0 +1,43 @@
+-- A total beside a double: the double takes whole numbers while it stays where doubles have no fraction and no gap, and the total stands still.
+use Prim.Native.Nat.{ℕ, _^_, _≤_, _<_}
+use mathlib.Core.Bool.{Bool, true, false, cond, _&&_}
+use lib.Dec.{T, leb}
+use lib.IntN.{ℤ, pos, natAbs, _+ℤ_, _-ℤ_}
+use lib.Ieee.{Float, nan, binary64, sub, lt, le, eq, toSigned}
+use Rattle.floats.specs.Doubles.{double}
+use Rattle.floats.specs.Wholes.{IsWhole}
+use Rattle.sums.specs.declared.Total.{Total}
+use Rattle.sums.specs.declared.Total.the-variants.{Absent, Amount, Refused}
+
+-- where the double starts, and what it stands for 0 at: half way between 2^52 and 2^53
+abbrev pub middle : ℕ
+middle = 6755399441055744
+
+-- from 2^52 to 2^53 a double is a whole number, and each whole number is one
+abbrev pub inside : Float → Bool
+inside x = le (double (2 ^ 52)) x && lt x (double (2 ^ 53))
+
+-- a total so far from the ends of 64 bits that no double beside it takes it there
+abbrev pub roomy : ℤ → Bool
+roomy a = leb (natAbs a) (2 ^ 62)
+
+-- `near` and `far` stand for the total t: by far alone, or by far and how far near is from the middle
+pub data Tally : Float → Total → Total → Type 0 where
+  alone : {t : Total} → Tally nan t t
+  beside : {x : Float} {n : ℕ} {a : ℤ} → IsWhole binary64 x (pos n) → 2 ^ 52 ≤ n → n < 2 ^ 53 → T (roomy a) → Tally x (Amount a) (Amount (a +ℤ (pos n -ℤ pos middle)))
+
+-- where next is near + v: it was not rounded, and v is a whole number
+abbrev pub exactly : Float → Float → Float → Bool
+exactly near v next = eq (sub binary64 next near) v && inside next
+
+-- the total that the two stand for
+abbrev pub joined : Float → Total → Total
+joined near Absent = Absent
+joined near (Amount a) = cond (inside near && roomy a) (Amount (a +ℤ toSigned 63 (sub binary64 near (double middle)))) (Amount a)
+joined near (Refused c) = Refused c
+
+-- nothing changes any other total
+abbrev pub isAmount : Total → Bool
+isAmount Absent = false
+isAmount (Amount a) = true
+isAmount (Refused c) = false
