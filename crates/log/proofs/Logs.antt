@@ -23,7 +23,7 @@ use Rattle.lines.specs.Lines.{recordLine}
 use Rattle.reader.specs.Columns.{closingOf}
 use Rattle.reader.specs.declared.Closing.{Closing}
 use lib.Ieee.{Float}
-use Rattle.tally.specs.Tally.{Tally}
+use Rattle.tally.proofs.Laws.{Tally}
 use Rattle.sums.specs.Sums.{plus, totalFrom}
 use Rattle.sums.specs.declared.Total.{Total}
 use Rattle.streams.specs.Next.{unscaledOf}

@@ -10,6 +10,7 @@ use mir.Syntax.{w64}
 use mir.Val.{SFits}
 use lib.Pow.{pow-pos}
 use borrow.Author.Tests.{ltb-true, lt-ltb}
+use borrow.Table.Steps.{cases as by}
 use lib.IntN.{ℤ, pos, negsuc, natAbs, negℤ, _+ℤ_, _-ℤ_, +ℤ-assoc, +ℤ-comm, +ℤ-idr, -ℤ-+ℤ-cancel}
 use lib.Ieee.{Float, nan, inf, fin, binary64, low, up, down, round, add, sub, lt, le, eq, ofInt, toSigned, inFloat, inSigned, fits}
 use lib.Ieee.Fits.{and-l, and-r, add-fits, ofInt-fits, down-pos}
@@ -25,8 +26,15 @@ use Rattle.floats.proofs.Sizes.{natAbs-add}
 use Rattle.sums.specs.declared.Total.{Total}
 use Rattle.sums.specs.declared.Total.the-variants.{Absent, Amount, Refused}
 use Rattle.sums.specs.Sums.{counts, wholeOf, in64, plus}
-use Rattle.tally.specs.Tally.{middle, inside, roomy, Tally, alone, beside, exactly, joined, isAmount}
+use Rattle.tally.specs.Tally.{middle, inside, roomy, besideOf, exactly, joined, isAmount}
 use Rattle.sums.proofs.Values.{eq-counts}
+
+-- ---- the two together
+
+-- `near` and `far` stand for the total t: by far alone, or by far and how far near is from the middle
+pub data Tally : Float → Total → Total → Type 0 where
+  alone : {t : Total} → Tally nan t t
+  beside : {x : Float} {n : ℕ} {a : ℤ} → IsWhole binary64 x (pos n) → 2 ^ 52 ≤ n → n < 2 ^ 53 → T (roomy a) → Tally x (Amount a) (Amount (a +ℤ (pos n -ℤ pos middle)))
 
 -- ---- tests
 
@@ -201,9 +209,19 @@ joined-is (alone {t}) = nan-joined t
 joined-is (beside {x} {n} {a} w lo hi r) =
     rw (inside-of x n (whole-value binary64 x (pos n) w) lo hi, is-true (roomy a) r, cast x n w lo hi .1) refl
 
+-- far starts anew, and near at the middle
+fresh : (a : ℤ) → T (roomy a) → Tally (double middle) (Amount a) (Amount a)
+fresh a r = subst (λ (z : ℤ). Tally (double middle) (Amount a) (Amount z)) (+ℤ-idr a) (beside (whole-of binary64 (pos middle) (omega arith)) (omega arith) (omega arith) r)
+
+-- the double to start with stands for nothing, beside any total
+pub begins : (t : Total) → Tally (besideOf t) t t
+begins Absent = alone
+begins (Refused c) = alone
+begins (Amount a) = by (roomy a) (λ h. rw h (fresh a (subst T (sym h) tt))) (λ h. rw h alone)
+
 -- where a step is not exact, the value is added to the total joined, and a double is put beside the sum
-pub joined-step : {near near' : Float} {far far' t : Total} (v : Float) → Tally near far t → far' ≡ plus (joined near far) v → Tally near' far' far' → Tally near' far' (plus t v)
-joined-step {far' = far'} v k e n = subst (Tally _ far') (e ∙ ap (λ (x : Total). plus x v) (joined-is k)) n
+pub joined-step : {near near' : Float} {far far' t : Total} (v : Float) → Tally near far t → far' ≡ plus (joined near far) v → near' ≡ besideOf far' → Tally near' far' (plus t v)
+joined-step {far' = far'} v k e n = subst (Tally _ far') (e ∙ ap (λ (x : Total). plus x v) (joined-is k)) (subst (λ (x : Float). Tally x far' far') (sym n) (begins far'))
 
 still : (t : Total) (v : Float) → isAmount t ≡ false → plus t v ≡ t
 still Absent v h = refl
@@ -214,10 +232,6 @@ still (Refused c) v h = refl
 pub not-amount : {near : Float} {far t : Total} (v : Float) → Tally near far t → isAmount far ≡ false → Tally near far (plus t v)
 not-amount v (alone {t}) h = subst (Tally nan t) (sym (still t v h)) alone
 not-amount v (beside w lo hi r) h = absurd (false≢true (sym h))
-
--- far starts anew, and near at the middle
-pub fresh : (a : ℤ) → T (roomy a) → Tally (double middle) (Amount a) (Amount a)
-fresh a r = subst (λ (z : ℤ). Tally (double middle) (Amount a) (Amount z)) (+ℤ-idr a) (beside (whole-of binary64 (pos middle) (omega arith)) (omega arith) (omega arith) r)
 
 -- as the machine compares
 pub roomy-is : (a : ℤ) → roomy a ≡ (leZ (negsuc (2 ^ 62 - 1)) a && leZ a (pos (2 ^ 62)))

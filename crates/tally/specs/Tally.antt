@@ -1,11 +1,10 @@
 -- A total beside a double: the double takes whole numbers while it stays where doubles have no fraction and no gap, and the total stands still.
-use Prim.Native.Nat.{ℕ, _^_, _≤_, _<_}
+use Prim.Native.Nat.{ℕ, _^_}
 use mathlib.Core.Bool.{Bool, true, false, cond, _&&_}
-use lib.Dec.{T, leb}
-use lib.IntN.{ℤ, pos, natAbs, _+ℤ_, _-ℤ_}
+use lib.Dec.{leb}
+use lib.IntN.{ℤ, natAbs, _+ℤ_}
 use lib.Ieee.{Float, nan, binary64, sub, lt, le, eq, toSigned}
 use Rattle.floats.specs.Doubles.{double}
-use Rattle.floats.specs.Wholes.{IsWhole}
 use Rattle.sums.specs.declared.Total.{Total}
 use Rattle.sums.specs.declared.Total.the-variants.{Absent, Amount, Refused}
 
@@ -21,10 +20,11 @@ inside x = le (double (2 ^ 52)) x && lt x (double (2 ^ 53))
 abbrev pub roomy : ℤ → Bool
 roomy a = leb (natAbs a) (2 ^ 62)
 
--- `near` and `far` stand for the total t: by far alone, or by far and how far near is from the middle
-pub data Tally : Float → Total → Total → Type 0 where
-  alone : {t : Total} → Tally nan t t
-  beside : {x : Float} {n : ℕ} {a : ℤ} → IsWhole binary64 x (pos n) → 2 ^ 52 ≤ n → n < 2 ^ 53 → T (roomy a) → Tally x (Amount a) (Amount (a +ℤ (pos n -ℤ pos middle)))
+-- the double to start with: at the middle where the total has room, and a NaN, to which nothing is added, where it has none
+abbrev pub besideOf : Total → Float
+besideOf Absent = nan
+besideOf (Amount a) = cond (roomy a) (double middle) nan
+besideOf (Refused c) = nan
 
 -- where next is near + v: it was not rounded, and v is a whole number
 abbrev pub exactly : Float → Float → Float → Bool

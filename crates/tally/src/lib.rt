@@ -1,11 +1,11 @@
 // A total beside a double: values are added to the double while that is exact, and to the total where it is not.
 use sums::Total;
 ghost use mathlib.Core.Path.{_≡_};
-ghost use Rattle.tally.specs.Tally.{Tally, exactly, joined, isAmount};
+ghost use Rattle.tally.specs.Tally.{besideOf, exactly, joined, isAmount};
 
 // The double to start with: at the middle where the total has room, and a NaN, to which nothing is added, where it has none.
 pub fn beside(far: Total) -> f64
-    ensures { λ r. ⌜ Tally r far far ⌝ }
+    ensures { λ r. ⌜ r ≡ besideOf far ⌝ }
 {
     match far {
         Total::Absent => 0.0 / 0.0,

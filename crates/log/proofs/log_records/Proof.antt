@@ -1,5 +1,5 @@
 -- The loop keeps what is read and put so far, and a total for it; it ends where the room is used up or the rule stops.
-use mathlib.Core.Path.{_≡_, sym, ap, _∙_, subst}
+use mathlib.Core.Path.{_≡_, refl, sym, ap, _∙_, subst}
 use mathlib.Core.Logic.{⊎-elim}
 use Prim.Native.Nat.{_-_}
 use native.Mathlib.Omega.{arith}
@@ -9,8 +9,7 @@ use Rattle.chemstation.proofs.Answers.{answered}
 use Rattle.streams.specs.Next.{unscaledOf}
 use Rattle.sums.specs.Sums.{plus}
 use Rattle.sums.specs.declared.Total.{Total}
-use Rattle.tally.specs.Tally.{Tally}
-use Rattle.tally.proofs.Laws.{exact-step, joined-is, joined-step, not-amount}
+use Rattle.tally.proofs.Laws.{Tally, begins, exact-step, joined-is, joined-step, not-amount}
 use Rattle.log.proofs.Logs.{tally-as, summed, line-some, no-room, logged-stops, Logging, logging-start, logging-more, logging-end}
 use Rattle.log.proofs.log_records.Statement.{statement}
 use Rattle.log.proofs.log_records.Tie as tie
@@ -22,7 +21,7 @@ abbrev μ-loop : tie.MeasureT-loop
 μ-loop src from last out₀ at cur₀ f₀ a₀ count₀ far₀ near₀ out cur f a count far near = length out - a
 
 loop-holds : tie.Need-loop-holds Inv-loop μ-loop
-loop-holds c = let start = c .before .before .before in (_, logging-start _ _ _ _ _ _ _ (start .pre .0) (start .pre .1), c .beside .ensures)
+loop-holds c = let start = c .before .before .before in (_, logging-start _ _ _ _ _ _ _ (start .pre .0) (start .pre .1), tally-as (c .beside .ensures) refl (begins _))
 
 sub-loop : tie.Need-sub-loop Inv-loop μ-loop
 sub-loop c = let p = c .loop .inv .1 .put in omega (arith, p .fits, p .same)
