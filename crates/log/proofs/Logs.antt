@@ -23,9 +23,11 @@ use Rattle.lines.specs.Lines.{recordLine}
 use Rattle.reader.specs.Columns.{closingOf}
 use Rattle.reader.specs.declared.Closing.{Closing}
 use lib.Ieee.{Float}
-use Rattle.tally.proofs.Laws.{Tally}
 use Rattle.sums.specs.Sums.{plus, totalFrom}
 use Rattle.sums.specs.declared.Total.{Total}
+use Rattle.tally.specs.Tally.{startOf}
+use Rattle.tally.specs.declared.Tally.{Tally}
+use Rattle.log.specs.declared.Logged.{Logged}
 use Rattle.streams.specs.Next.{unscaledOf}
 use Rattle.log.specs.Runs.{unscaled, linesOf, goOnBy, readInto, logged, LoggedBy}
 use Rattle.digits.proofs.Puts.{put-as, put-then, put-none}
@@ -129,14 +131,14 @@ read-few (suc most) room last st bs =
 
 -- ---- the loop
 
--- the same tally, said otherwise
-pub tally-as : {x y : Float} {f g t : Total} → y ≡ x → g ≡ f → Tally x f t → Tally y g t
-tally-as {t = t} d e a = subst₂ (λ x f. Tally x f t) (sym d) (sym e) a
-
 -- one value more
 total-more : (t : Total) (rs : List Record) (r : Record) → plus (totalFrom t (unscaled rs)) (unscaledOf r) ≡ totalFrom t (unscaled (rs ++ (r ∷ [])))
 total-more t [] r = refl
 total-more t (x ∷ rs) r = total-more (plus t (unscaledOf x)) rs r
+
+-- the total before, by the tally that it was put into
+pub logged-as : {g : Reading State Record} {first : ℕ} {old : List ℕ} {at : ℕ} {s : Tally} {t : Total} {r : Logged} {new : List ℕ} → s ≡ startOf t → LoggedBy g first old at (s .far) r new → LoggedBy g first old at t r new
+logged-as {g} {first} {old} {at} {r = r} {new} e l = subst (λ (x : Tally). LoggedBy g first old at (x .far) r new) e l
 
 module _ (last : Bool) (st : State) (src : List ℕ) (from : ℕ) (old : List ℕ) (at : ℕ) (total : Total) where
   abbrev all : Reading State Record

@@ -24,8 +24,8 @@ pub struct Logged {
     pub closing: Closing,
 }
 
-// Reads records from src at index from on, adds their unscaled values to the total and puts their lines into out from index at on, until out has no room for a
-// line or there is another answer than a record.
+// Reads records from src at index from on, adds their unscaled values to the total and puts their lines into out from index at
+// on, until out has no room for a line or there is another answer than a record.
 pub fn log_records(
     st: State,
     src: &[u8],
@@ -42,9 +42,7 @@ pub fn log_records(
     let mut f = from;
     let mut a = at;
     let mut count: usize = 0;
-    // the total, and the double beside it that takes the values
-    let mut far = total;
-    let mut near = tally::beside(total);
+    let mut sum = tally::start(total);
     while out.len() - a >= 70 {
         match chemstation::next_record(cur, &src[f..], last) {
             Next::Stopped(z) => {
@@ -53,19 +51,12 @@ pub fn log_records(
                     from: f,
                     at: a,
                     count,
-                    total: tally::join(near, far),
+                    total: tally::total_of(sum),
                     closing: Closing::Stopped(z),
                 };
             }
             Next::Given(r, after, k) => {
-                let v = streams::unscaled_of(r);
-                let next = near + v;
-                if tally::exact(near, v, next) {
-                    near = next;
-                } else if tally::is_amount(far) {
-                    far = sums::plus(tally::join(near, far), v);
-                    near = tally::beside(far);
-                }
+                sum = tally::add(sum, streams::unscaled_of(r));
                 a = lines::put_record(out, a, r);
                 cur = after;
                 f += k;
@@ -78,7 +69,7 @@ pub fn log_records(
         from: f,
         at: a,
         count,
-        total: tally::join(near, far),
+        total: tally::total_of(sum),
         closing: Closing::Full,
     }
 }

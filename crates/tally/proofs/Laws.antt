@@ -1,4 +1,4 @@
--- Laws of a total beside a double: a step that is exact adds the value to the total they stand for, and joined they are that total.
+-- Laws of a tally: it stands for a total, each value that is added to it is added to that total, and it gives that total.
 use mathlib.Core.Path.{_≡_, refl, sym, ap, _∙_, subst}
 use Prim.Native.Nat.{ℕ, zero, suc, _+_, _-_, _*_, _%_, _^_, _≤_, _<_}
 use native.Mathlib.Nat.{pow-succ', mul-lt-mul-of-pos-right}
@@ -26,15 +26,16 @@ use Rattle.floats.proofs.Sizes.{natAbs-add}
 use Rattle.sums.specs.declared.Total.{Total}
 use Rattle.sums.specs.declared.Total.the-variants.{Absent, Amount, Refused}
 use Rattle.sums.specs.Sums.{counts, wholeOf, in64, plus}
-use Rattle.tally.specs.Tally.{middle, inside, roomy, besideOf, exactly, joined, isAmount}
+use Rattle.tally.specs.Tally.{middle, inside, roomy, besideOf, exactly, joined, isAmount, startOf, addedTo, totalOf}
+use Rattle.tally.specs.declared.Tally.{Tally}
 use Rattle.sums.proofs.Values.{eq-counts}
 
 -- ---- the two together
 
 -- `near` and `far` stand for the total t: by far alone, or by far and how far near is from the middle
-pub data Tally : Float → Total → Total → Type 0 where
-  alone : {t : Total} → Tally nan t t
-  beside : {x : Float} {n : ℕ} {a : ℤ} → IsWhole binary64 x (pos n) → 2 ^ 52 ≤ n → n < 2 ^ 53 → T (roomy a) → Tally x (Amount a) (Amount (a +ℤ (pos n -ℤ pos middle)))
+pub data Stands : Float → Total → Total → Type 0 where
+  alone : {t : Total} → Stands nan t t
+  beside : {x : Float} {n : ℕ} {a : ℤ} → IsWhole binary64 x (pos n) → 2 ^ 52 ≤ n → n < 2 ^ 53 → T (roomy a) → Stands x (Amount a) (Amount (a +ℤ (pos n -ℤ pos middle)))
 
 -- ---- tests
 
@@ -168,7 +169,7 @@ unfolding add sub eq
 nan-eq v = refl
 
 -- the law of a step: one that is exact adds the value
-pub exact-step : {near : Float} {far t : Total} (v : Float) → Tally near far t → exactly near v (add binary64 near v) ≡ true → Tally (add binary64 near v) far (plus t v)
+exact-step : {near : Float} {far t : Total} (v : Float) → Stands near far t → exactly near v (add binary64 near v) ≡ true → Stands (add binary64 near v) far (plus t v)
 exact-step v alone h = absurd (false≢true (sym (nan-eq v) ∙ both (eq (sub binary64 (add binary64 nan v) nan) v) (inside (add binary64 nan v)) h .0))
 exact-step v (beside {x} {n} {a} w lo hi r) h =
     let next = add binary64 x v in
@@ -180,7 +181,7 @@ exact-step v (beside {x} {n} {a} w lo hi r) h =
     let e = shift a (pos n) (pos middle) (pos (i .n)) in
     let p : plus (Amount (a +ℤ (pos n -ℤ pos middle))) v ≡ Amount (a +ℤ (pos (i .n) -ℤ pos middle)) =
     plus-is (a +ℤ (pos n -ℤ pos middle)) d v (c .0) (c .1) (rw e (sum-in64 a (i .n) r (i .least) (i .most))) ∙ ap Amount e in
-    subst (Tally next (Amount a)) (sym p) (beside (i .is) (i .least) (i .most) r)
+    subst (Stands next (Amount a)) (sym p) (beside (i .is) (i .least) (i .most) r)
 
 below-two53 : (x : Float) (n : ℕ) → HasValue x false n 1 → n < 2 ^ 53 → lt x (fin false 1 (pos 53)) ≡ true
 unfolding lt
@@ -204,24 +205,20 @@ nan-joined (Amount a) = rw outside refl
 nan-joined (Refused c) = refl
 
 -- joined, the two are the total
-pub joined-is : {near : Float} {far t : Total} → Tally near far t → joined near far ≡ t
+joined-is : {near : Float} {far t : Total} → Stands near far t → joined near far ≡ t
 joined-is (alone {t}) = nan-joined t
 joined-is (beside {x} {n} {a} w lo hi r) =
     rw (inside-of x n (whole-value binary64 x (pos n) w) lo hi, is-true (roomy a) r, cast x n w lo hi .1) refl
 
 -- far starts anew, and near at the middle
-fresh : (a : ℤ) → T (roomy a) → Tally (double middle) (Amount a) (Amount a)
-fresh a r = subst (λ (z : ℤ). Tally (double middle) (Amount a) (Amount z)) (+ℤ-idr a) (beside (whole-of binary64 (pos middle) (omega arith)) (omega arith) (omega arith) r)
+fresh : (a : ℤ) → T (roomy a) → Stands (double middle) (Amount a) (Amount a)
+fresh a r = subst (λ (z : ℤ). Stands (double middle) (Amount a) (Amount z)) (+ℤ-idr a) (beside (whole-of binary64 (pos middle) (omega arith)) (omega arith) (omega arith) r)
 
 -- the double to start with stands for nothing, beside any total
-pub begins : (t : Total) → Tally (besideOf t) t t
+begins : (t : Total) → Stands (besideOf t) t t
 begins Absent = alone
 begins (Refused c) = alone
 begins (Amount a) = by (roomy a) (λ h. rw h (fresh a (subst T (sym h) tt))) (λ h. rw h alone)
-
--- where a step is not exact, the value is added to the total joined, and a double is put beside the sum
-pub joined-step : {near near' : Float} {far far' t : Total} (v : Float) → Tally near far t → far' ≡ plus (joined near far) v → near' ≡ besideOf far' → Tally near' far' (plus t v)
-joined-step {far' = far'} v k e n = subst (Tally _ far') (e ∙ ap (λ (x : Total). plus x v) (joined-is k)) (subst (λ (x : Float). Tally x far' far') (sym n) (begins far'))
 
 still : (t : Total) (v : Float) → isAmount t ≡ false → plus t v ≡ t
 still Absent v h = refl
@@ -229,9 +226,30 @@ still (Amount a) v h = absurd (false≢true (sym h))
 still (Refused c) v h = refl
 
 -- nothing changes a total that is no amount
-pub not-amount : {near : Float} {far t : Total} (v : Float) → Tally near far t → isAmount far ≡ false → Tally near far (plus t v)
-not-amount v (alone {t}) h = subst (Tally nan t) (sym (still t v h)) alone
+not-amount : {near : Float} {far t : Total} (v : Float) → Stands near far t → isAmount far ≡ false → Stands near far (plus t v)
+not-amount v (alone {t}) h = subst (Stands nan t) (sym (still t v h)) alone
 not-amount v (beside w lo hi r) h = absurd (false≢true (sym h))
+
+-- ---- a tally
+
+-- the total that it stands for
+abbrev pub StandsFor : Tally → Total → Type 0
+StandsFor s t = Stands (s .near) (s .far) t
+
+pub starts : (t : Total) → StandsFor (startOf t) t
+starts t = begins t
+
+pub adds : (s : Tally) (t : Total) (v : Float) → StandsFor s t → StandsFor (addedTo s v) (plus t v)
+adds s t v k =
+    let sum = plus (joined (s .near) (s .far)) v in
+    by (exactly (s .near) v (add binary64 (s .near) v))
+    (λ h. rw h (exact-step v k h))
+    (λ h. rw h (by (isAmount (s .far)) (λ a. rw a (subst (Stands (besideOf sum) sum) (ap (λ (x : Total). plus x v) (joined-is k)) (begins sum))) (λ a. rw a (not-amount v k a))))
+
+pub totals : (s : Tally) (t : Total) → StandsFor s t → totalOf s ≡ t
+totals s t k = joined-is k
+
+-- ---- the machine's tests
 
 -- as the machine compares
 pub roomy-is : (a : ℤ) → roomy a ≡ (leZ (negsuc (2 ^ 62 - 1)) a && leZ a (pos (2 ^ 62)))

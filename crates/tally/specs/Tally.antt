@@ -1,12 +1,14 @@
--- A total beside a double: the double takes whole numbers while it stays where doubles have no fraction and no gap, and the total stands still.
+-- A sum as a total and a double beside it: the double takes whole numbers while it stays where doubles have no fraction and no gap, and the total stands still.
 use Prim.Native.Nat.{ℕ, _^_}
 use mathlib.Core.Bool.{Bool, true, false, cond, _&&_}
 use lib.Dec.{leb}
 use lib.IntN.{ℤ, natAbs, _+ℤ_}
-use lib.Ieee.{Float, nan, binary64, sub, lt, le, eq, toSigned}
+use lib.Ieee.{Float, nan, binary64, add, sub, lt, le, eq, toSigned}
 use Rattle.floats.specs.Doubles.{double}
+use Rattle.sums.specs.Sums.{plus}
 use Rattle.sums.specs.declared.Total.{Total}
 use Rattle.sums.specs.declared.Total.the-variants.{Absent, Amount, Refused}
+use Rattle.tally.specs.declared.Tally.{Tally}
 
 -- where the double starts, and what it stands for 0 at: half way between 2^52 and 2^53
 abbrev pub middle : ℕ
@@ -41,3 +43,18 @@ abbrev pub isAmount : Total → Bool
 isAmount Absent = false
 isAmount (Amount a) = true
 isAmount (Refused c) = false
+
+-- ---- a tally
+
+-- nothing is added yet
+abbrev pub startOf : Total → Tally
+startOf t = record { near = besideOf t; far = t }
+
+-- one value more: beside the total where that is exact, else to the total of both
+abbrev pub addedTo : Tally → Float → Tally
+addedTo s v =
+    let next = add binary64 (s .near) v in
+    cond (exactly (s .near) v next) (record { near = next; far = s .far }) (cond (isAmount (s .far)) (startOf (plus (joined (s .near) (s .far)) v)) s)
+
+abbrev pub totalOf : Tally → Total
+totalOf s = joined (s .near) (s .far)

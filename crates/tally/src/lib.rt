@@ -1,10 +1,16 @@
-// A total beside a double: values are added to the double while that is exact, and to the total where it is not.
+// A sum of values as a total and a double beside it: a value is added to the double where that is exact, and to the total where it is not.
 use sums::Total;
 ghost use mathlib.Core.Path.{_≡_};
-ghost use Rattle.tally.specs.Tally.{besideOf, exactly, joined, isAmount};
+ghost use Rattle.tally.specs.Tally.{besideOf, exactly, joined, isAmount, startOf, addedTo, totalOf};
+
+pub struct Tally {
+    // from 2^52 to below 2^53, and how far it is from the middle counts; or a NaN, and nothing does
+    pub near: f64,
+    pub far: Total,
+}
 
 // The double to start with: at the middle where the total has room, and a NaN, to which nothing is added, where it has none.
-pub fn beside(far: Total) -> f64
+fn beside(far: Total) -> f64
     ensures { λ r. ⌜ r ≡ besideOf far ⌝ }
 {
     match far {
@@ -21,14 +27,14 @@ pub fn beside(far: Total) -> f64
 }
 
 // Whether `next`, the sum of the other two, was not rounded, and is where the next one need not be either.
-pub fn exact(near: f64, v: f64, next: f64) -> bool
+fn exact(near: f64, v: f64, next: f64) -> bool
     ensures { λ r. ⌜ r ≡ exactly near v next ⌝ }
 {
     next - near == v && (next >= 4503599627370496.0 && next < 9007199254740992.0)
 }
 
 // The total that the two stand for.
-pub fn join(near: f64, far: Total) -> Total
+fn join(near: f64, far: Total) -> Total
     ensures { λ r. ⌜ r ≡ joined near far ⌝ }
 {
     match far {
@@ -49,7 +55,7 @@ pub fn join(near: f64, far: Total) -> Total
 }
 
 // Whether it is an amount.
-pub fn is_amount(far: Total) -> bool
+fn is_amount(far: Total) -> bool
     ensures { λ r. ⌜ r ≡ isAmount far ⌝ }
 {
     match far {
@@ -57,4 +63,36 @@ pub fn is_amount(far: Total) -> bool
         Total::Refused(_) => false,
         Total::Amount(_) => true,
     }
+}
+
+// A total, and nothing beside it.
+pub fn start(total: Total) -> Tally
+    ensures { λ r. ⌜ r ≡ startOf total ⌝ }
+{
+    let near = beside(total);
+    Tally { near, far: total }
+}
+
+// One value more.
+pub fn add(t: Tally, v: f64) -> Tally
+    ensures { λ r. ⌜ r ≡ addedTo t v ⌝ }
+{
+    let near = t.near;
+    let far = t.far;
+    let next = near + v;
+    if exact(near, v, next) {
+        return Tally { near: next, far };
+    }
+    if is_amount(far) {
+        return start(sums::plus(join(near, far), v));
+    }
+    t
+}
+
+// The total of both.
+pub fn total_of(t: Tally) -> Total
+    ensures { λ r. ⌜ r ≡ totalOf t ⌝ }
+{
+    let far = t.far;
+    join(t.near, far)
 }
