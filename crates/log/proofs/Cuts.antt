@@ -19,8 +19,7 @@ use Rattle.streams.specs.declared.State.{State}
 use Rattle.streams.specs.declared.Record.{Record}
 use Rattle.opening.specs.Opening.{begins}
 use Rattle.lines.specs.Lines.{endLine}
-use Rattle.log.specs.Runs.{linesOf}
-use Rattle.log.specs.Log.{inBuffer, Reads, one-more, no-more, headerText, firstTotal, footText, LogOf, refused-run, opened-run, Begins, no-header, same-records, OneLog}
+use Rattle.log.specs.Log.{inBuffer, Reads, one-more, no-more, openedText, LogOf, refused-run, opened-run, BeginsLog, no-header, same-records, OneLog}
 use Rattle.log.proofs.Exists.{there}
 
 -- ---- one reading
@@ -117,17 +116,14 @@ reads-one : {size : ℕ} {st : State} {bs : List ℕ} {rs us : List Record} {y z
 reads-one (one-more {x = x} {n = n} e r) s = let p = reads-step x n s e in let q = reads-one r (p .2) in (ap (λ l. x .shows ∷ l) (q .0) ∙ sym (p .1), q .1)
 reads-one (no-more {z = z} e) s = let p = reads-stop z s e in (sym (p .0), sym (p .1))
 
-abbrev pub opened : ℕ → Header → List Record → Stop → List ℕ
-opened kind h rs z = headerText h ++ (linesOf rs ++ footText (firstTotal kind) rs z (length rs))
-
 -- a log where the opening gives a header
 pub log-step : {size kind : ℕ} {F : List ℕ} {z : Stop} {u : List ℕ} (h : Header) (n : ℕ) → LogOf size kind F z u → inBuffer size (openRule kind) F ≡ got h n →
-    (rs : List Record) × (u ≡ opened kind h rs z) × Reads size (begins kind h) (drop n F) rs z
+    (rs : List Record) × (u ≡ openedText kind h rs z) × Reads size (begins kind h) (drop n F) rs z
 log-step h n (refused-run e) f = absurd (got≢stops (sym f ∙ e))
 log-step {size} {kind} {F} {z} h n (opened-run {h = i} {n = m} {rs = rs} e r) f =
     let same : i ≡ h = cc in
     let many : m ≡ n = cc in
-    (rs, ap (λ x. opened kind x rs z) same, subst₂ (λ x k. Reads size (begins kind x) (drop k F) rs z) same many r)
+    (rs, ap (λ x. openedText kind x rs z) same, subst₂ (λ x k. Reads size (begins kind x) (drop k F) rs z) same many r)
 
 pub log-stop : {size kind : ℕ} {F : List ℕ} {z : Stop} {u : List ℕ} (y : Stop) → LogOf size kind F z u → inBuffer size (openRule kind) F ≡ stops y → u ≡ endLine y 0
 log-stop y (opened-run e r) f = absurd (got≢stops (sym e ∙ f))
@@ -135,7 +131,7 @@ log-stop y (refused-run {z = z} e) f = let same : z ≡ y = cc in ap (λ w. endL
 
 pub one : (size kind : ℕ) (F : List ℕ) (y z : Stop) (t u : List ℕ) → LogOf size kind F y t → LogOf size kind F z u → t ≡ u
 one size kind F y z t u (refused-run e) s = sym (log-stop y s e)
-one size kind F y z t u (opened-run {h = h} {n = n} e r) s = let p = log-step h n s e in let q = reads-one r (p .2) in ap₂ (opened kind h) (q .0) (q .1) ∙ sym (p .1)
+one size kind F y z t u (opened-run {h = h} {n = n} e r) s = let p = log-step h n s e in let q = reads-one r (p .2) in ap₂ (openedText kind h) (q .0) (q .1) ∙ sym (p .1)
 
 -- ---- up to `e m`
 
@@ -146,14 +142,14 @@ reads-begin {size} {more} {st} {bs} h (one-more {x = x} {n = n} e r) s =
     (b .0, p .1 ∙ ap (λ l. x .shows ∷ l) (b .1))
 reads-begin {us = us} h (no-more e) s = (us, refl)
 
-log-begins : {size more kind : ℕ} {F : List ℕ} {y z : Stop} {t u : List ℕ} → size ≤ more → z ≡ moreBytes → LogOf size kind F z t → LogOf more kind F y u → Begins kind y t u
-log-begins {kind = kind} {y = y} {u = u} h m (refused-run e) s = subst (λ w. Begins kind y (endLine w 0) u) (sym m) (no-header u)
+log-begins : {size more kind : ℕ} {F : List ℕ} {y z : Stop} {t u : List ℕ} → size ≤ more → z ≡ moreBytes → LogOf size kind F z t → LogOf more kind F y u → BeginsLog kind y t u
+log-begins {kind = kind} {y = y} {u = u} h m (refused-run e) s = subst (λ w. BeginsLog kind y (endLine w 0) u) (sym m) (no-header u)
 log-begins {size} {more} {kind} {F} {y} {z} {t} {u} h m (opened-run {h = i} {n = n} {rs = rs} e r) s =
     let p = log-step i n s (larger-reads size more (openRule kind) F (got i n) h e (λ q. got≢stops q)) in
     let b = reads-begin h r (p .2) in
-    subst₂ (Begins kind y) (ap (opened kind i rs) (sym m)) (sym (p .1 ∙ ap (λ l. opened kind i l y) (b .1))) (same-records i rs (b .0))
+    subst₂ (BeginsLog kind y) (ap (openedText kind i rs) (sym m)) (sym (p .1 ∙ ap (λ l. openedText kind i l y) (b .1))) (same-records i rs (b .0))
 
-begins-so : (size more kind : ℕ) (F : List ℕ) (y : Stop) (t u : List ℕ) → size ≤ more → LogOf size kind F moreBytes t → LogOf more kind F y u → Begins kind y t u
+begins-so : (size more kind : ℕ) (F : List ℕ) (y : Stop) (t u : List ℕ) → size ≤ more → LogOf size kind F moreBytes t → LogOf more kind F y u → BeginsLog kind y t u
 begins-so size more kind F y t u h l s = log-begins h refl l s
 
 -- ---- all at hand

@@ -17,8 +17,7 @@ use Rattle.streams.specs.declared.State.{State}
 use Rattle.streams.specs.declared.Record.{Record}
 use Rattle.opening.specs.Opening.{begins}
 use Rattle.lines.specs.Lines.{endLine}
-use Rattle.log.specs.Runs.{linesOf}
-use Rattle.log.specs.Log.{inBuffer, Reads, one-more, no-more, headerText, firstTotal, footText, LogOf, refused-run, opened-run}
+use Rattle.log.specs.Log.{inBuffer, Reads, one-more, no-more, openedText, LogOf, refused-run, opened-run}
 
 -- a record takes a byte at least and no more than there are
 takes : (size : ℕ) (st : State) (bs : List ℕ) {x : Item State Record} {n : ℕ} → inBuffer size (rule st) bs ≡ got x n → (0 < n) × (n ≤ length bs)
@@ -49,5 +48,5 @@ there size kind F = go (inBuffer size (openRule kind) F) refl
     go : (x : Read Header) → inBuffer size (openRule kind) F ≡ x → (z : Stop) × (t : List ℕ) × LogOf size kind F z t
     go (got h n) e =
         let r = records-there (length (drop n F)) size (begins kind h) (drop n F) (omega arith) in
-        (r .1, headerText h ++ (linesOf (r .0) ++ footText (firstTotal kind) (r .0) (r .1) (length (r .0))), opened-run e (r .2))
+        (r .1, openedText kind h (r .0) (r .1), opened-run e (r .2))
     go (stops z) e = (z, endLine z 0, refused-run e)

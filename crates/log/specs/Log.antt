@@ -39,19 +39,23 @@ firstTotal kind = cond (eqb kind 6) Absent (Amount (pos 0))
 abbrev pub footText : Total → List Record → Stop → ℕ → List ℕ
 footText t rs z count = totalLine (totalFrom t (unscaled rs)) ++ endLine z count
 
--- 'A refused opening prints only e'; else h, the lines of the records, t, e
+-- h, the lines of the records, t, e
+abbrev pub openedText : ℕ → Header → List Record → Stop → List ℕ
+openedText kind h rs z = headerText h ++ (linesOf rs ++ footText (firstTotal kind) rs z (length rs))
+
+-- 'A refused opening prints only e'
 pub data LogOf (size kind : ℕ) (F : List ℕ) : Stop → List ℕ → Type 0 where
   refused-run : {z : Stop} → inBuffer size (openRule kind) F ≡ stops z → LogOf size kind F z (endLine z 0)
   opened-run : {h : Header} {n : ℕ} {rs : List Record} {z : Stop} → inBuffer size (openRule kind) F ≡ got h n → Reads size (begins kind h) (drop n F) rs z →
-      LogOf size kind F z (headerText h ++ (linesOf rs ++ footText (firstTotal kind) rs z (length rs)))
+      LogOf size kind F z (openedText kind h rs z)
 
 -- ---- what is so of every file
 
 -- how a log that closes with `m` begins another of the same file: its closing line stands alone, or both have one header, and its records begin the other's
-pub data Begins (kind : ℕ) (y : Stop) : List ℕ → List ℕ → Type 0 where
-  no-header : (u : List ℕ) → Begins kind y (endLine moreBytes 0) u
+pub data BeginsLog (kind : ℕ) (y : Stop) : List ℕ → List ℕ → Type 0 where
+  no-header : (u : List ℕ) → BeginsLog kind y (endLine moreBytes 0) u
   same-records : (h : Header) (rs vs : List Record) →
-      Begins kind y (headerText h ++ (linesOf rs ++ footText (firstTotal kind) rs moreBytes (length rs))) (headerText h ++ (linesOf (rs ++ vs) ++ footText (firstTotal kind) (rs ++ vs) y (length (rs ++ vs))))
+      BeginsLog kind y (openedText kind h rs moreBytes) (openedText kind h (rs ++ vs) y)
 
 pub record OneLog : Type 0 where
   -- it has a log, and one only
@@ -59,6 +63,6 @@ pub record OneLog : Type 0 where
   pub one : (size kind : ℕ) (F : List ℕ) (y z : Stop) (t u : List ℕ) → LogOf size kind F y t → LogOf size kind F z u → t ≡ u
   -- a larger buffer gives the same log, unless it closes with `m`; then too the lines of all its records are the same
   pub larger : (size more kind : ℕ) (F : List ℕ) (z : Stop) (t : List ℕ) → size ≤ more → LogOf size kind F z t → ¬ (z ≡ moreBytes) → LogOf more kind F z t
-  pub begins-so : (size more kind : ℕ) (F : List ℕ) (y : Stop) (t u : List ℕ) → size ≤ more → LogOf size kind F moreBytes t → LogOf more kind F y u → Begins kind y t u
+  pub begins-so : (size more kind : ℕ) (F : List ℕ) (y : Stop) (t u : List ℕ) → size ≤ more → LogOf size kind F moreBytes t → LogOf more kind F y u → BeginsLog kind y t u
   -- in a buffer that is larger than the file all of it is at hand, told last: no log closes with `m`
   pub no-wait : (size kind : ℕ) (F : List ℕ) (z : Stop) (t : List ℕ) → length F < size → LogOf size kind F z t → ¬ (z ≡ moreBytes)

@@ -3,7 +3,7 @@ use error::Refusal;
 ghost use mathlib.Core.Path.{_≡_};
 ghost use mathlib.Core.Bool.{cond};
 ghost use lib.IntN.{_+ℤ_};
-ghost use Rattle.sums.specs.declared.Whole.the-variants as whole;
+ghost use Rattle.sums.specs.declared.Counted.the-variants as counted;
 ghost use Rattle.sums.specs.Sums.{counts, wholeOf, amount, plus as plusOf, totalFrom, TotalsAreSums};
 
 // What values add up to.
@@ -15,22 +15,22 @@ pub enum Total {
 }
 
 // A value as a whole number below 2^53 in size.
-enum Whole {
-    Is(i64),
+enum Counted {
+    As(i64),
     Not,
 }
 
 // Whether a value is a whole number below 2^53 in size, and which.
-fn whole_of(v: f64) -> Whole
-    ensures { λ r. ⌜ r ≡ cond (counts v) (whole.Is (wholeOf v)) whole.Not ⌝ }
+fn whole_of(v: f64) -> Counted
+    ensures { λ r. ⌜ r ≡ cond (counts v) (counted.As (wholeOf v)) counted.Not ⌝ }
 {
     if v > -9007199254740992.0 && v < 9007199254740992.0 {
         let n = std::num::truncating_f64_to_i64(v);
         if std::num::nearest_i64_to_f64(n) == v {
-            return Whole::Is(n);
+            return Counted::As(n);
         }
     }
-    Whole::Not
+    Counted::Not
 }
 
 // The sum of two whole numbers, if it fits.
@@ -57,8 +57,8 @@ pub fn plus(t: Total, v: f64) -> Total
         Total::Absent => t,
         Total::Refused(_) => t,
         Total::Amount(a) => match whole_of(v) {
-            Whole::Is(n) => sum(a, n),
-            Whole::Not => Total::Refused(Refusal::SumOutOfRange),
+            Counted::As(n) => sum(a, n),
+            Counted::Not => Total::Refused(Refusal::SumOutOfRange),
         },
     }
 }

@@ -8,24 +8,24 @@ use mir.Syntax.{w64}
 use mir.Val.{toZ, ofZ}
 use Rattle.sums.specs.declared.Total.{Total}
 use Rattle.sums.specs.declared.Total.the-variants.{Amount}
-use Rattle.sums.specs.declared.Whole.{Whole}
-use Rattle.sums.specs.declared.Whole.the-variants.{Is, Not}
+use Rattle.sums.specs.declared.Counted.{Counted}
+use Rattle.sums.specs.declared.Counted.the-variants.{As, Not}
 use Rattle.sums.specs.Sums.{counts, wholeOf, amount, outOfRange, plus}
 use Rattle.sums.proofs.plus.Statement.{statement}
 use Rattle.sums.proofs.plus.Tie as tie
 
-module _ (t : Total) (v : Float) (a : ℤ) (w : Whole) (is : t ≡ Amount a) (so : w ≡ cond (counts v) (Is (wholeOf v)) Not) where
-  added : (n : ℤ) → w ≡ Is n → amount (a +ℤ n) ≡ plus t v
+module _ (t : Total) (v : Float) (a : ℤ) (w : Counted) (is : t ≡ Amount a) (so : w ≡ cond (counts v) (As (wholeOf v)) Not) where
+  added : (n : ℤ) → w ≡ As n → amount (a +ℤ n) ≡ plus t v
   added n e = go (counts v) so ∙ sym (ap (λ t. plus t v) is)
     where
-      go : (b : Bool) → w ≡ cond b (Is (wholeOf v)) Not → amount (a +ℤ n) ≡ cond b (amount (a +ℤ wholeOf v)) outOfRange
+      go : (b : Bool) → w ≡ cond b (As (wholeOf v)) Not → amount (a +ℤ n) ≡ cond b (amount (a +ℤ wholeOf v)) outOfRange
       go true so = ap (λ z. amount (a +ℤ z)) (cc)
       go false so = absurd (false≢true cc)
 
   not-added : w ≡ Not → outOfRange ≡ plus t v
   not-added e = go (counts v) so ∙ sym (ap (λ t. plus t v) is)
     where
-      go : (b : Bool) → w ≡ cond b (Is (wholeOf v)) Not → outOfRange ≡ cond b (amount (a +ℤ wholeOf v)) outOfRange
+      go : (b : Bool) → w ≡ cond b (As (wholeOf v)) Not → outOfRange ≡ cond b (amount (a +ℤ wholeOf v)) outOfRange
       go true so = absurd (false≢true cc)
       go false so = refl
 
