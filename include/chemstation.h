@@ -125,7 +125,7 @@ uint8_t chemstation_fill(double numbers[6], size_t counts[4], const uint8_t *byt
 
 /* Adds the values of a column, one after the other, to *sum, in whole numbers. The caller sets *sum to 0 before the first column; a
  * run in parts goes on with the same *sum. What is added up of a run is `unscaled`, the given[CHEMSTATION_RECORDS] values of each
- * fill: that sum is the one in the log's line t.
+ * fill: that sum is the one in the log's line t, unless the log closes with m and so holds the first records only.
  *
  * GIVEN: *sum is the new sum. -0.0 adds 0.
  * SUM_OUT_OF_RANGE, a value is no whole number of a size below 2^53 (2^53 and -2^53 are none such, nor are an infinity and a NaN),

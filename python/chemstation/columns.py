@@ -29,8 +29,8 @@ class Columns:
         return map(Record._make, zip(self.time, self.axis, self.unscaled, self.scaled))
 
     def sum(self):
-        """The sum of `unscaled` in whole numbers, as the log's line t has it. Refused (17) where that says -, ValueError for an array
-        run, whose log has no such line."""
+        """The sum of `unscaled` in whole numbers, as the line t of a log of all records has it. Refused (17) where that says -,
+        ValueError for an array run, whose log has no such line."""
         if self.kind not in SUMMED:
             raise ValueError("the intensities of an array run are not added up: its log has no line t")
         return add_up(self.unscaled)

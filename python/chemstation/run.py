@@ -67,7 +67,7 @@ class Run:
         return self.columns().records()
 
     def sum(self):
-        """The sum of the unscaled intensities, an int, as the log's line t has it: that of `columns()`."""
+        """The sum of the unscaled intensities, an int, as the line t of a log of all records has it: that of `columns()`."""
         return self.columns().sum()
 
     @property

@@ -21,6 +21,11 @@ pub signed-neg : (z : ℤ) → signed (not (negative z)) (natAbs z) ≡ negℤ z
 signed-neg (pos n) = refl
 signed-neg (negsuc n) = refl
 
+pub natAbs-signed : (s : Bool) (n : ℕ) → natAbs (signed s n) ≡ n
+natAbs-signed false n = refl
+natAbs-signed true zero = refl
+natAbs-signed true (suc n) = refl
+
 pub signed-times : (a b : ℤ) → signed (unlike (negative a) (negative b)) (natAbs a * natAbs b) ≡ a *ℤ b
 signed-times (pos a) (pos b) = refl
 signed-times (pos a) (negsuc b) = refl
@@ -29,11 +34,6 @@ signed-times (negsuc a) (negsuc b) = refl
 
 pub natAbs-times : (a b : ℤ) → natAbs (a *ℤ b) ≡ natAbs a * natAbs b
 natAbs-times a b = ap natAbs (sym (signed-times a b)) ∙ natAbs-signed (unlike (negative a) (negative b)) (natAbs a * natAbs b)
-  where
-    natAbs-signed : (s : Bool) (n : ℕ) → natAbs (signed s n) ≡ n
-    natAbs-signed false n = refl
-    natAbs-signed true zero = refl
-    natAbs-signed true (suc n) = refl
 
 natAbs-sub : (a b : ℕ) → natAbs (subℕ a (suc b)) ≤ a + suc b
 natAbs-sub a b = go (ltb a (suc b))

@@ -121,11 +121,26 @@ all-added s t (r ∷ rs) (w ∷ ws) e h = ap (λ x. totalFrom x (unscaled rs)) (
 first-total : (kind : ℕ) → ¬ (kind ≡ 6) → firstTotal kind ≡ Amount (pos 0)
 first-total kind d = rw (ne-eqb kind 6 d) refl
 
+pub sum : TotalsAreSums → Demand3Holds → (size kind : ℕ) (F : List ℕ) → AreBytes F → ¬ (kind ≡ 6) → (l : OpenedLog size kind F) → AllWithin (valuesOf l) →
+    totalFrom (firstTotal kind) (unscaled (l .records)) ≡ totalAdded (Amount (pos 0)) (valuesOf l)
+sum s demand size kind F b d l h =
+    ap (λ t. totalFrom t (unscaled (l .records))) (first-total kind d) ∙ all-added s (Amount (pos 0)) (l .records) (valuesOf l) (exact demand b l) h
+
 pub foot : TotalsAreSums → Demand3Holds → (size kind : ℕ) (F : List ℕ) → AreBytes F → ¬ (kind ≡ 6) → (l : OpenedLog size kind F) → AllWithin (valuesOf l) → LogOf size kind F (l .answer) (textAdded l)
 foot s demand size kind F b d l h =
-    let e : totalFrom (firstTotal kind) (unscaled (l .records)) ≡ totalAdded (Amount (pos 0)) (valuesOf l) =
-    ap (λ t. totalFrom t (unscaled (l .records))) (first-total kind d) ∙ all-added s (Amount (pos 0)) (l .records) (valuesOf l) (exact demand b l) h in
+    let e = sum s demand size kind F b d l h in
     subst (λ t. LogOf size kind F (l .answer) (headerText (l .header) ++ (linesOf (l .records) ++ (totalLine t ++ endLine (l .answer) (length (l .records)))))) e (opened-run (l .opens) (l .reads))
+
+-- ---- kind 6
+
+absent-stays : (vs : List Float) → totalFrom Absent vs ≡ Absent
+absent-stays [] = refl
+absent-stays (v ∷ vs) = absent-stays vs
+
+pub array : (size : ℕ) (F : List ℕ) (l : OpenedLog size 6 F) → LogOf size 6 F (l .answer) (headerText (l .header) ++ (linesOf (l .records) ++ endLine (l .answer) (length (l .records))))
+array size F l =
+    subst (λ t. LogOf size 6 F (l .answer) (headerText (l .header) ++ (linesOf (l .records) ++ (totalLine t ++ endLine (l .answer) (length (l .records))))))
+    (absent-stays (unscaled (l .records))) (opened-run (l .opens) (l .reads))
 
 -- ---- an amount is the sum
 

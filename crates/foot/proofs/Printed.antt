@@ -1,6 +1,6 @@
 -- Document 01's printed run, computed: its text is compared byte by byte, so that a log that differs is refused at once.
-use mathlib.Core.Path.{refl, subst}
-use mathlib.Core.List.{List}
+use mathlib.Core.Path.{_≡_, refl, subst}
+use mathlib.Core.List.{List, map}
 use native.Mathlib.Omega.{arith}
 use Prim.Native.Nat.{ℕ}
 use lib.Dec.{T}
@@ -17,10 +17,11 @@ use Rattle.fid.specs.Fid.{fidRule}
 use Rattle.opening.specs.Opening.{sameBytes, begins}
 use Rattle.opening.proofs.Marks.{same-is}
 use Rattle.digits.specs.Numbers.{decimal}
-use Rattle.lines.specs.Lines.{bitsText, recordLine, answerText}
+use Rattle.lines.specs.Lines.{bitsText, recordLine, totalLine, answerText}
+use Rattle.lines.specs.Left.{ascii}
 use Rattle.log.specs.Runs.{linesOf}
 use Rattle.log.specs.Log.{LogOf, opened-run, one-more, no-more}
-use Rattle.foot.specs.Foot.{AllWithin, addedUp, printedRun, printedLog}
+use Rattle.foot.specs.Foot.{AllWithin, addedUp, printedRun, printedLog, someTotals, someLines}
 
 printed-as : {t : List ℕ} → LogOf 32768 1 printedRun finished t → T (sameBytes t printedLog) → LogOf 32768 1 printedRun finished printedLog
 printed-as {t} l s = subst (LogOf 32768 1 printedRun finished) (same-is t printedLog s) l
@@ -28,6 +29,10 @@ printed-as {t} l s = subst (LogOf 32768 1 printedRun finished) (same-is t printe
 pub printed : LogOf 32768 1 printedRun finished printedLog
 unfolding printedRun printedLog read _>>=_ headerRule metadataRule textsRule openRule describedBy textRule pascal trimmedOf decode minima texts clocks offsets multipliers begins fidRule add mul div sub ofInt ofBits toBits isNan toSigned linesOf recordLine bitsText answerText decimal
 printed = printed-as (opened-run refl (one-more refl (one-more refl (no-more refl)))) tt
+
+pub lines : map totalLine someTotals ≡ map ascii someLines
+unfolding decimal
+lines = refl
 
 pub within : AllWithin (addedUp 1 2 printedRun)
 unfolding printedRun read _>>=_ readUpTo headerRule metadataRule textsRule openRule describedBy textRule pascal trimmedOf decode minima texts begins fidRule add mul div sub ofInt ofBits toBits

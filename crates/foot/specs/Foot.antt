@@ -1,10 +1,11 @@
 -- Request 1 within demand 3's bounds: the number at the foot of a log is the sum of the added-up values, in whole numbers never rounded.
 use mathlib.Core.Path.{_≡_}
 use mathlib.Core.Bool.{cond}
-use mathlib.Core.List.{List, [], _∷_, _++_, foldl}
-use Prim.Native.Nat.{ℕ, _^_}
+use mathlib.Core.List.{List, [], _∷_, _++_, foldl, map}
+use Prim.Native.Nat.{ℕ, _-_, _^_}
+use Prim.Native.String.{String}
 use lib.Dec.{ltb}
-use lib.IntN.{ℤ, pos, natAbs, _+ℤ_}
+use lib.IntN.{ℤ, pos, negsuc, natAbs, _+ℤ_}
 use lib.ListN.{length, drop, replicate}
 use Rattle.rules.specs.Rule.{Stop, finished, got}
 use Rattle.rules.specs.Calls.{byRules}
@@ -14,13 +15,13 @@ use Rattle.streams.specs.declared.Record.{Record}
 use Rattle.opening.specs.Opening.{begins}
 use Rattle.whole.specs.Whole.{Added, wholeRule, Within, AllExact}
 use Rattle.demand3.specs.Demand3.{wholeStart}
-use Rattle.sums.specs.Sums.{outOfRange, amount}
+use Rattle.sums.specs.Sums.{outOfRange, amount, totalFrom}
 use Rattle.sums.specs.declared.Total.{Total}
 use Rattle.sums.specs.declared.Total.the-variants.{Absent, Amount, Refused}
 use Rattle.lines.specs.Lines.{totalLine, endLine}
 use Rattle.lines.specs.Left.{ascii}
-use Rattle.log.specs.Runs.{linesOf}
-use Rattle.log.specs.Log.{inBuffer, Reads, headerText, LogOf}
+use Rattle.log.specs.Runs.{linesOf, unscaled}
+use Rattle.log.specs.Log.{inBuffer, Reads, headerText, firstTotal, LogOf}
 
 -- ---- the added-up values
 
@@ -73,13 +74,27 @@ printedRun = replicate 251 0 ++ (2 ∷ (replicate 15 0 ++ (2 ∷ (replicate 244 
 unfoldable pub printedLog : List ℕ
 printedLog = ascii "h 2 512\nr 0000000000000000 - 4014000000000000 4014000000000000\nr 3FC999999999999A - 4028000000000000 4028000000000000\nt 17\ne 0 2\n"
 
+-- 0, a negative one, both ends of 64 bits, a refused one, and none
+abbrev pub someTotals : List Total
+someTotals = Amount (pos 0) ∷ Amount (negsuc 16) ∷ Amount (pos (2 ^ 63 - 1)) ∷ Amount (negsuc (2 ^ 63 - 1)) ∷ outOfRange ∷ Absent ∷ []
+
+abbrev pub someLines : List String
+someLines = "t 0\n" ∷ "t -17\n" ∷ "t 9223372036854775807\n" ∷ "t -9223372036854775808\n" ∷ "t -\n" ∷ "" ∷ []
+
 pub record FootOfLog : Type 0 where
   -- the records of a log are demand 3's: each unscaled intensity is its added-up value, as far as that is claimed
   pub exact : (size kind : ℕ) (F : List ℕ) → AreBytes F → (l : OpenedLog size kind F) → AllExact (l .records) (valuesOf l)
-  -- where it is claimed of all of them, the line t is that of the added-up values
+  -- where it is claimed of all of them, what they add up to is what the added-up values do
+  pub sum : (size kind : ℕ) (F : List ℕ) → AreBytes F → ¬ (kind ≡ 6) → (l : OpenedLog size kind F) → AllWithin (valuesOf l) →
+      totalFrom (firstTotal kind) (unscaled (l .records)) ≡ totalAdded (Amount (pos 0)) (valuesOf l)
+  -- so the log has that in its line t
   pub foot : (size kind : ℕ) (F : List ℕ) → AreBytes F → ¬ (kind ≡ 6) → (l : OpenedLog size kind F) → AllWithin (valuesOf l) → LogOf size kind F (l .answer) (textAdded l)
   -- and the number in it is their sum
   pub number : (a z : ℤ) (ws : List Added) → totalAdded (Amount a) ws ≡ Amount z → z ≡ sumAdded a ws
+  -- kind 6 has no line t, whatever its records
+  pub array : (size : ℕ) (F : List ℕ) (l : OpenedLog size 6 F) → LogOf size 6 F (l .answer) (headerText (l .header) ++ (linesOf (l .records) ++ endLine (l .answer) (length (l .records))))
+  -- the line t of some totals
+  pub lines : map totalLine someTotals ≡ map ascii someLines
   -- of document 01's printed run it is so
   pub printed : LogOf 32768 1 printedRun finished printedLog
   pub within : AllWithin (addedUp 1 2 printedRun)

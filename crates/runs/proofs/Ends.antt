@@ -19,7 +19,7 @@ ends-within zero p buf out input h = absurd (omega arith)
 ends-within (suc w) p buf out input h =
     each-ends
     (λ q n ok e. let f = wrote-falls p q (asked p buf out e .0) ok in ends-within w _ _ _ input (omega (arith, f)))
-    (λ q n e. let f = asked p buf out e .0 in ends-within w q _ _ input (omega (arith, f)))
+    (λ q n ok e. let f = wrote-falls p q (asked p buf out e .0) ok in ends-within w _ _ _ input (omega (arith, f)))
     (λ q n part rest new e i. let f = took-falls p q buf out n (length part) new (asked p buf out e) in ends-within w _ new _ rest (omega (arith, f)))
     (λ q n new e. let f = unread-falls p q buf out n (asked p buf out e) in ends-within w _ new _ input (omega (arith, f)))
 

@@ -128,7 +128,7 @@ module _ (n : ℕ) (old input : List ℕ) (size : ℕ) (h : n < size) (k : lengt
 by-answer : (p : Place) (buf out input : List ℕ) → Ends p buf out input → (a : Ask) → stepOf p buf out .answer ≡ a → Runs p buf out input
 by-answer p buf out input (each-ends w t r f) ask.Closed e = ([], closed e)
 by-answer p buf out input (each-ends w t r f) (ask.Write q n) e = let x = by-answer q _ _ input (w q n true e) _ refl in (_, written q n e (x .1))
-by-answer p buf out input (each-ends w t r f) (ask.Tell q n) e = let x = by-answer q _ _ input (t q n e) _ refl in (x .0, told q n e (x .1))
+by-answer p buf out input (each-ends w t r f) (ask.Tell q n) e = let x = by-answer q _ _ input (t q n true e) _ refl in (x .0, told q n e (x .1))
 by-answer p buf out input (each-ends w t r f) (ask.Read q n) e =
     let old = stepOf p buf out .buf in
     let long = step-long p buf out in

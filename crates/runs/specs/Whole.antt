@@ -1,7 +1,7 @@
 -- Whole runs of the machine: the text that it asks to be written is the log of its input, however this comes in parts; and it ends.
 use Prim.Native.Nat.{ℕ, _+_, _-_, _*_, _≤_, _<_}
 use mathlib.Core.Path.{_≡_}
-use mathlib.Core.Bool.{Bool, false, cond}
+use mathlib.Core.Bool.{Bool, true, false, cond}
 use mathlib.Core.List.{List, [], _∷_, _++_}
 use lib.Dec.{eqb}
 use lib.ListN.{length, take}
@@ -23,12 +23,12 @@ pub data LogOfInput (size : ℕ) : List ℕ → List ℕ → Type 0 where
 
 -- ---- a run
 
--- from a place and its memory on, with bytes of the input that have not come: the texts that it asks to be written, one behind the other, if each is written
+-- from a place and its memory on, with bytes of the input that have not come: the texts that it asks to be written, one behind the other, if each is written. It goes on where `wrote` and `took` lead
 pub data Writes : Place → List ℕ → List ℕ → List ℕ → List ℕ → Type 0 where
   closed : {p : Place} {buf out input : List ℕ} → stepOf p buf out .answer ≡ ask.Closed → Writes p buf out input []
-  written : {p : Place} {buf out input t : List ℕ} (q : Place) (n : ℕ) → stepOf p buf out .answer ≡ ask.Write q n → Writes q (stepOf p buf out .buf) (stepOf p buf out .out) input t →
+  written : {p : Place} {buf out input t : List ℕ} (q : Place) (n : ℕ) → stepOf p buf out .answer ≡ ask.Write q n → Writes (wroteOf q true) (stepOf p buf out .buf) (stepOf p buf out .out) input t →
       Writes p buf out input (take n (stepOf p buf out .out) ++ t)
-  told : {p : Place} {buf out input t : List ℕ} (q : Place) (n : ℕ) → stepOf p buf out .answer ≡ ask.Tell q n → Writes q (stepOf p buf out .buf) (stepOf p buf out .out) input t → Writes p buf out input t
+  told : {p : Place} {buf out input t : List ℕ} (q : Place) (n : ℕ) → stepOf p buf out .answer ≡ ask.Tell q n → Writes (wroteOf q true) (stepOf p buf out .buf) (stepOf p buf out .out) input t → Writes p buf out input t
   -- a part of the input comes behind the first n bytes, none only at its end; what stands behind it then is anything
   taken : {p : Place} {buf out t : List ℕ} (q : Place) (n : ℕ) (part rest new : List ℕ) → stepOf p buf out .answer ≡ ask.Read q n → length part ≤ length buf - n → (part ≡ [] → rest ≡ []) →
       length new ≡ length buf → take (n + length part) new ≡ take n (stepOf p buf out .buf) ++ part → Writes (tookOf q (length part) new) new (stepOf p buf out .out) rest t → Writes p buf out (part ++ rest) t
@@ -58,7 +58,7 @@ Falls p buf out ask.Closed = Unit
 -- every run from here ends, however its input comes, and whatever reads and writes answer
 pub data Ends : Place → List ℕ → List ℕ → List ℕ → Type 0 where
   each-ends : {p : Place} {buf out input : List ℕ} → ((q : Place) (n : ℕ) (ok : Bool) → stepOf p buf out .answer ≡ ask.Write q n → Ends (wroteOf q ok) (stepOf p buf out .buf) (stepOf p buf out .out) input) →
-      ((q : Place) (n : ℕ) → stepOf p buf out .answer ≡ ask.Tell q n → Ends q (stepOf p buf out .buf) (stepOf p buf out .out) input) →
+      ((q : Place) (n : ℕ) (ok : Bool) → stepOf p buf out .answer ≡ ask.Tell q n → Ends (wroteOf q ok) (stepOf p buf out .buf) (stepOf p buf out .out) input) →
       ((q : Place) (n : ℕ) (part rest new : List ℕ) → stepOf p buf out .answer ≡ ask.Read q n → input ≡ part ++ rest → Ends (tookOf q (length part) new) new (stepOf p buf out .out) rest) →
       ((q : Place) (n : ℕ) (new : List ℕ) → stepOf p buf out .answer ≡ ask.Read q n → Ends (over q) new (stepOf p buf out .out) input) → Ends p buf out input
 

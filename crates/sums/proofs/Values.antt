@@ -4,7 +4,7 @@ use mathlib.Core.Bool.{Bool, true, false, not, _&&_, _||_, Bool·beq, and-true, 
 use Prim.Native.Nat.{ℕ, zero, suc, _+_, _-_, _*_, _/_, _%_, _^_, _<_, min}
 use native.Mathlib.Nat.{mul-one, mul-right-comm, mul-div-cancel, mul-mod-left, zero-mul, eq-of-mul-eq-mul-right, div-add-mod', div-lt-iff-lt-mul, le-div-iff-mul-le, le-of-lt}
 use native.Mathlib.Omega.{arith}
-use lib.Dec.{T, eqb, ltb, eqb→eq, lt→ltb}
+use lib.Dec.{T, eqb, ltb, eqb→eq, lt→ltb, ltb→lt}
 use lib.IntN.{ℤ, pos, negsuc, natAbs}
 use borrow.Author.Tests.{lt-ltb, le-ltb, eq-eqb, ne-eqb, eqb-true, eqb-false, ltb-true, ltb-false}
 use lib.Ieee.{Float, nan, inf, fin, binary64, up, down, level, lt, le, eq, ofInt, toSigned}
@@ -12,7 +12,7 @@ use lib.Ieee.Bits.{is-true}
 use lib.Ieee.Fits.{down-pos, and-l, and-r}
 use lib.Ieee.Exact.{HasValue}
 use Rattle.floats.specs.Wholes.{IsWhole, negative}
-use Rattle.floats.proofs.Sizes.{signed, signed-is}
+use Rattle.floats.proofs.Sizes.{signed, signed-is, natAbs-signed}
 use Rattle.floats.proofs.Exact.{whole-of, whole-value}
 use Rattle.sums.specs.Sums.{counts, wholeOf}
 
@@ -54,7 +54,7 @@ pub minus-zero-counts : (counts (fin true 0 (pos 0)) ≡ true) × (wholeOf (fin 
 unfolding toSigned
 minus-zero-counts = (refl, refl)
 
--- the three, as `TotalsAreSums` has them
+-- these, as `TotalsAreSums` has them
 pub wholes : (v : Float) (z : ℤ) → IsWhole binary64 v z → natAbs z < 2 ^ 53 → T (counts v) × (wholeOf v ≡ z)
 wholes v z w l = let r = whole-counts v z w l in (subst T (sym (r .0)) tt, r .1)
 
@@ -180,6 +180,15 @@ pub counts-eq : (y : Float) → counts y ≡ true → eq (ofInt binary64 (wholeO
 counts-eq y h =
     let same = eq (ofInt binary64 (wholeOf y)) y in
     is-true same (and-r (lt (fin true 1 (pos 53)) y && lt y (fin false 1 (pos 53))) same (subst T (sym h ∙ tests y) tt))
+
+pub counted : (v : Float) → T (counts v) → (natAbs (wholeOf v) < 2 ^ 53) × T (eq (ofInt binary64 (wholeOf v)) v)
+counted nan t = absurd t
+counted (inf s) t = absurd t
+counted (fin s m e) t =
+    let q = m * up e / down e in
+    let l = ltb→lt q (2 ^ 53) (and-r (eqb (m * up e % down e) 0) (ltb q (2 ^ 53)) t) in
+    let n : natAbs (wholeOf (fin s m e)) ≡ q = ap natAbs (cut-small s m e l) ∙ natAbs-signed s q in
+    (omega (arith, n, l), subst T (sym (counts-eq (fin s m e) (is-true (counts (fin s m e)) t))) tt)
 
 -- what the truncation asks: 2^63 is further out
 pub in-range : (v : Float) → lt (fin true 1 (pos 53)) v ≡ true → lt v (fin false 1 (pos 53)) ≡ true → T (le (fin true 1 (pos 63)) v) × T (lt v (fin false 1 (pos 63)))

@@ -6,7 +6,7 @@ use mathlib.Core.List.{List, [], _∷_, _++_, foldl}
 use Prim.Native.Nat.{ℕ, _*_, _/_, _%_, _^_, _<_}
 use lib.Dec.{T, eqb, ltb}
 use lib.IntN.{ℤ, pos, negsuc, natAbs, _+ℤ_}
-use lib.Ieee.{Float, nan, inf, fin, binary64, up, down, toSigned}
+use lib.Ieee.{Float, nan, inf, fin, binary64, up, down, eq, ofInt, toSigned}
 use Rattle.error.specs.declared.Refusal.the-variants.{SumOutOfRange}
 use Rattle.floats.specs.Wholes.{IsWhole}
 use Rattle.sums.specs.declared.Total.{Total}
@@ -76,7 +76,9 @@ pub record TotalsAreSums : Type 0 where
   pub either : (a : ℤ) (vs : List Float) → (totalFrom (Amount a) vs ≡ Amount (sumFrom a vs)) ⊎ (totalFrom (Amount a) vs ≡ outOfRange)
   -- a column in parts
   pub parts : (t : Total) (us vs : List Float) → totalFrom t (us ++ vs) ≡ totalFrom (totalFrom t us) vs
-  -- a whole number's double counts as that number below 2^53, and not from there on; -0 counts as 0
+  -- what counts equals the double of its whole number, which is below 2^53 in size: no fraction does, nothing larger, no infinity and no NaN
+  pub counted : (v : Float) → T (counts v) → (natAbs (wholeOf v) < 2 ^ 53) × T (eq (ofInt binary64 (wholeOf v)) v)
+  -- a whole number's double counts as that number below 2^53 in size, and not at 2^53; -0 counts as 0
   pub wholes : (v : Float) (z : ℤ) → IsWhole binary64 v z → natAbs z < 2 ^ 53 → T (counts v) × (wholeOf v ≡ z)
   pub large : (v : Float) (z : ℤ) → IsWhole binary64 v z → natAbs z ≡ 2 ^ 53 → T (not (counts v))
   pub minus-zero : T (counts (fin true 0 (pos 0))) × (wholeOf (fin true 0 (pos 0)) ≡ pos 0)

@@ -1,7 +1,7 @@
 -- The theorem, from the two that are cited.
 use borrow.Author.Needs.{needs}
-use Rattle.foot.proofs.Feet.{exact, foot, number}
-use Rattle.foot.proofs.Printed.{printed, within}
+use Rattle.foot.proofs.Feet.{exact, sum, foot, array, number}
+use Rattle.foot.proofs.Printed.{lines, printed, within}
 use Rattle.foot.proofs.foot_of_log.Statement.{statement}
 use Rattle.foot.proofs.foot_of_log.Tie as tie
 
@@ -9,7 +9,7 @@ returns : tie.Need-returns
 returns c =
     let d = c .before .demand-three .ensures in
     let s = c .totals-are-sums .ensures in
-    record { exact = λ size kind F b l. exact d b l; foot = foot s d; number = number; printed = printed; within = within }
+    record { exact = λ size kind F b l. exact d b l; sum = sum s d; foot = foot s d; number = number; array = array; lines = lines; printed = printed; within = within }
 
 pub foot-of-log-spec : {M : Type 1} → statement M
 foot-of-log-spec = tie.close (tie.spec (λ c κs. search needs) (λ c κs. search needs) returns)

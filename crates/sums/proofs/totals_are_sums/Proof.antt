@@ -1,7 +1,7 @@
 -- The theorem, from the lemmas of proofs/Folds and proofs/Values.
 use Rattle.sums.specs.Sums.{TotalsAreSums}
 use Rattle.sums.proofs.Folds.{amount-sum, sum-amount, refused-out, out-refused, either-sum, in-parts}
-use Rattle.sums.proofs.Values.{wholes, large, minus-zero}
+use Rattle.sums.proofs.Values.{counted, wholes, large, minus-zero}
 use Rattle.sums.proofs.totals_are_sums.Statement.{statement}
 use Rattle.sums.proofs.totals_are_sums.Tie as tie
 
@@ -13,6 +13,7 @@ totals-are-sums = record {
   out = out-refused;
   either = either-sum;
   parts = in-parts;
+  counted = counted;
   wholes = wholes;
   large = large;
   minus-zero = minus-zero;
