@@ -173,7 +173,7 @@ pub extern "C" fn chemstation_sum(values: &[f64], sum: &mut i64) -> u8
     ensures { λ r. ⌜ SumsInto (totalFrom (Amount (now (sum .entry))) (now (values .entry))) r (now (sum .entry)) (now (sum .exit)) ⌝ }
 {
     let before = *sum;
-    match sums::total_from(Total::Amount(before), values) {
+    match tally::total_from(Total::Amount(before), values) {
         Total::Amount(n) => {
             *sum = n;
             GIVEN

@@ -1,10 +1,10 @@
-// Values added up in whole numbers: the sum at the foot of a log, and of a column.
+// Values added up in whole numbers: one value more, and what is so of every column.
 use error::Refusal;
 ghost use mathlib.Core.Path.{_≡_};
 ghost use mathlib.Core.Bool.{cond};
 ghost use lib.IntN.{_+ℤ_};
 ghost use Rattle.sums.specs.declared.Counted.the-variants as counted;
-ghost use Rattle.sums.specs.Sums.{counts, wholeOf, amount, plus as plusOf, totalFrom, TotalsAreSums};
+ghost use Rattle.sums.specs.Sums.{counts, wholeOf, amount, plus as plusOf, TotalsAreSums};
 
 // What values add up to.
 pub enum Total {
@@ -61,19 +61,6 @@ pub fn plus(t: Total, v: f64) -> Total
             Counted::Not => Total::Refused(Refusal::SumOutOfRange),
         },
     }
-}
-
-// The values of a column, one behind the other, on top of a total.
-pub fn total_from(t: Total, values: &[f64]) -> Total
-    ensures { λ r. ⌜ r ≡ totalFrom t (now (values .entry)) ⌝ }
-{
-    let mut total = t;
-    let mut i: usize = 0;
-    while i < values.len() {
-        total = plus(total, values[i]);
-        i += 1;
-    }
-    total
 }
 
 // Nothing to compute: the contract is the theorem on totals and sums in whole numbers.

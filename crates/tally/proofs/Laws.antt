@@ -1,10 +1,12 @@
 -- Laws of a tally: it stands for a total, each value that is added to it is added to that total, and it gives that total.
 use mathlib.Core.Path.{_≡_, refl, sym, ap, _∙_, subst}
+use mathlib.Core.List.{List}
 use Prim.Native.Nat.{ℕ, zero, suc, _+_, _-_, _*_, _%_, _^_, _≤_, _<_}
 use native.Mathlib.Nat.{pow-succ', mul-lt-mul-of-pos-right}
 use native.Mathlib.Omega.{arith}
 use mathlib.Core.Bool.{Bool, true, false, cond, _&&_, and-true, false≢true}
 use lib.Dec.{T, ltb, leb, eqb, ltb→lt, lt→ltb, leb→le, le→leb, leb·suc-suc}
+use lib.ListN.{length, drop, getD}
 use lib.Signed.{leZ}
 use mir.Syntax.{w64}
 use mir.Val.{SFits}
@@ -25,10 +27,11 @@ use Rattle.floats.proofs.Exact.{exactly as exact-on, whole-of, whole-value}
 use Rattle.floats.proofs.Sizes.{natAbs-add}
 use Rattle.sums.specs.declared.Total.{Total}
 use Rattle.sums.specs.declared.Total.the-variants.{Absent, Amount, Refused}
-use Rattle.sums.specs.Sums.{counts, wholeOf, in64, plus}
+use Rattle.sums.specs.Sums.{counts, wholeOf, in64, plus, totalFrom}
 use Rattle.tally.specs.Tally.{middle, inside, roomy, besideOf, exactly, joined, isAmount, startOf, addedTo, totalOf}
 use Rattle.tally.specs.declared.Tally.{Tally}
 use Rattle.sums.proofs.Values.{eq-counts}
+use Rattle.sums.proofs.Folds.{one-more, none-left}
 
 -- ---- the two together
 
@@ -248,6 +251,29 @@ adds s t v k =
 
 pub totals : (s : Tally) (t : Total) → StandsFor s t → totalOf s ≡ t
 totals s t k = joined-is k
+
+-- ---- a column
+
+-- the first i values are added: what is left, on top of the total that the tally stands for, adds up to what all does
+pub record Adding (values : List Float) (all : Total) (s : Tally) (i : ℕ) : Type 0 where
+  pub total : Total
+  pub stands : StandsFor s total
+  pub inside : i ≤ length values
+  pub rest : totalFrom total (drop i values) ≡ all
+
+pub adding-start : (t : Total) (values : List Float) (s : Tally) → s ≡ startOf t → Adding values (totalFrom (s .far) values) s 0
+adding-start t values s e = record { total = s .far; stands = subst (λ (x : Tally). StandsFor x (x .far)) (sym e) (starts t); inside = omega arith; rest = refl }
+
+pub adding-more : (values : List Float) (all : Total) (s r : Tally) (i : ℕ) (d : Float) → i < length values → r ≡ addedTo s (getD values i d) → Adding values all s i → Adding values all r (i + 1)
+adding-more values all s r i d h e a = record {
+  total = plus (a .total) (getD values i d);
+  stands = subst (λ (x : Tally). StandsFor x (plus (a .total) (getD values i d))) (sym e) (adds s (a .total) (getD values i d) (a .stands));
+  inside = omega arith;
+  rest = one-more values (a .total) (plus (a .total) (getD values i d)) i d h refl ∙ a .rest;
+}
+
+pub adding-end : (values : List Float) (t : Total) (s₀ s : Tally) (r : Total) (i : ℕ) → i ≡ length values → r ≡ totalOf s → s₀ ≡ startOf t → Adding values (totalFrom (s₀ .far) values) s i → r ≡ totalFrom t values
+adding-end values t s₀ s r i h e f a = e ∙ totals s (a .total) (a .stands) ∙ sym (none-left values (a .total) i h) ∙ a .rest ∙ ap (λ (x : Tally). totalFrom (x .far) values) f
 
 -- ---- the machine's tests
 

@@ -1,6 +1,8 @@
-// A sum of values as a total and a double beside it: a value is added to the double where that is exact, and to the total where it is not.
+// The sum of a column, and of the records of a log: a total and a double beside it. A value is added to the double where that is exact,
+// and to the total where it is not.
 use sums::Total;
 ghost use mathlib.Core.Path.{_≡_};
+ghost use Rattle.sums.specs.Sums.{totalFrom};
 ghost use Rattle.tally.specs.Tally.{besideOf, exactly, joined, isAmount, startOf, addedTo, totalOf};
 
 pub struct Tally {
@@ -95,4 +97,17 @@ pub fn total_of(t: Tally) -> Total
 {
     let far = t.far;
     join(t.near, far)
+}
+
+// The values of a column, one behind the other, on top of a total.
+pub fn total_from(t: Total, values: &[f64]) -> Total
+    ensures { λ r. ⌜ r ≡ totalFrom t (now (values .entry)) ⌝ }
+{
+    let mut sum = start(t);
+    let mut i: usize = 0;
+    while i < values.len() {
+        sum = add(sum, values[i]);
+        i += 1;
+    }
+    total_of(sum)
 }
