@@ -1,5 +1,8 @@
 // The sum of a column, and of the records of a log: a total and a double beside it. A value is added to the double where that is exact,
 // and to the total where it is not.
+//
+// The numbers: 4503599627370496 is 2^52, 9007199254740992 is 2^53, between which each double is a whole number and each whole number a
+// double; 6755399441055744 is their middle; 4611686018427387904 is 2^62.
 use sums::Total;
 ghost use mathlib.Core.Path.{_≡_};
 ghost use Rattle.sums.specs.Sums.{totalFrom};
