@@ -7,7 +7,7 @@ use Prim.Native.String.{String}
 use lib.Dec.{ltb}
 use lib.IntN.{ℤ, pos, negsuc, natAbs, _+ℤ_}
 use lib.ListN.{length, drop, replicate}
-use Rattle.rules.specs.Rule.{Stop, finished, got}
+use Rattle.rules.specs.Rule.{Stop, finished, got, stops}
 use Rattle.rules.specs.Calls.{byRules}
 use Rattle.common.specs.Bytes.{AreBytes}
 use Rattle.metadata.specs.Metadata.{Header, openRule}
@@ -93,6 +93,8 @@ pub record FootOfLog : Type 0 where
   pub number : (a z : ℤ) (ws : List Added) → totalAdded (Amount a) ws ≡ Amount z → z ≡ sumAdded a ws
   -- kind 6 has no line t, whatever its records
   pub array : (size : ℕ) (F : List ℕ) (l : OpenedLog size 6 F) → LogOf size 6 F (l .answer) (headerText (l .header) ++ (linesOf (l .records) ++ endLine (l .answer) (length (l .records))))
+  -- nor has a refused opening: e stands alone
+  pub refused : (size kind : ℕ) (F : List ℕ) (z : Stop) → inBuffer size (openRule kind) F ≡ stops z → LogOf size kind F z (endLine z 0)
   -- the line t of some totals
   pub lines : map totalLine someTotals ≡ map ascii someLines
   -- of document 01's printed run it is so

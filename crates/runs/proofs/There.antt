@@ -26,7 +26,10 @@ use Rattle.places.specs.declared.Ask.{Ask}
 use Rattle.places.specs.declared.Ask.the-variants as ask
 use Rattle.places.specs.Machine.{most, movedTo, totalled, atHand, putAt, fits, Stepped, nothingMore, writes, refills, tellsLeft, leaves, goesOn, behind, logsRecords, opens, afterwards, onceWritten, byPhase, stepOf}
 use Rattle.places.proofs.Steps.{Inside, fits-inside, hand-long}
-use Rattle.runs.specs.Whole.{Falls, Writes, closed, written, told, taken, Ends, each-ends}
+use Rattle.digits.specs.Numbers.{decimal}
+use Rattle.lines.specs.Lines.{answerText}
+use Rattle.lines.specs.Left.{ascii}
+use Rattle.runs.specs.Whole.{LogOfInput, no-digit, Falls, Writes, closed, written, told, taken, Ends, each-ends}
 use Rattle.runs.proofs.Falls.{falls}
 
 -- ---- a step keeps the buffer's length
@@ -139,6 +142,14 @@ by-answer p buf out input (each-ends w t r f) (ask.Read q n) e =
     let whole = take-append-drop (length buf - n) input in
     let x = by-answer _ now _ rest (r q n came rest now e (sym whole)) _ refl in
     (x .0, subst (λ i. Writes p buf out i (x .0)) whole (taken q n came rest now e (part-fits n old input (length buf) some long) (none-left n old input (length buf) some long) (new-long n old input (length buf) some long) (new-holds n old input (length buf) some long) (x .1)))
+
+-- ---- no digit
+
+pub empty-log : (size : ℕ) (t : List ℕ) → LogOfInput size [] t → t ≡ ascii "e 1 0\n"
+unfolding answerText decimal
+empty-log size t no-digit = refl
+
+-- ---- the theorem
 
 pub runs-there : ((p : Place) (buf out input : List ℕ) → Ends p buf out input) → (p : Place) (buf out input : List ℕ) → Runs p buf out input
 runs-there ends p buf out input = by-answer p buf out input (ends p buf out input) _ refl

@@ -8,6 +8,7 @@ use lib.ListN.{length, take}
 use Rattle.rules.specs.Rule.{Stop, refused}
 use Rattle.digits.specs.Numbers.{kindOf}
 use Rattle.lines.specs.Lines.{endLine}
+use Rattle.lines.specs.Left.{ascii}
 use Rattle.log.specs.Log.{LogOf}
 use Rattle.places.specs.declared.Phase.{Phase}
 use Rattle.places.specs.declared.Phase.the-variants.{Digit, Header, Records, Ended, TooLong, Over}
@@ -67,6 +68,8 @@ pub data Ends : Place → List ℕ → List ℕ → List ℕ → Type 0 where
 pub record WholeRuns : Type 0 where
   -- for every input of fewer than 2^64 bytes, however it comes
   pub log : (buf out input t : List ℕ) → 1 ≤ length buf → 128 ≤ length out → length input ≤ most → Writes started buf out input t → LogOfInput (length buf) input t
+  -- of an input without a digit it is these bytes
+  pub empty : (size : ℕ) (t : List ℕ) → LogOfInput size [] t → t ≡ ascii "e 1 0\n"
   -- and there is such a run, whatever the input
   pub there : (buf out input : List ℕ) → (t : List ℕ) × Writes started buf out input t
   -- each step asks for what lies in the buffers, and lowers the measure
