@@ -1,4 +1,4 @@
-/* Reads runs of Agilent ChemStation: what the header says, its texts, the records as columns of doubles, and the sum of a column.
+/* Reads runs of Agilent ChemStation: what the header says, its texts, the records as columns, and the sum of a column.
  *
  * The archive is made by `rt staticlib chemread` (target/staticlib/libchemread.a, x86-64 Linux). It allocates nothing, keeps
  * nothing between calls, reads and writes no file, and needs of the C library only memcpy. Calls from several threads do not
@@ -9,7 +9,7 @@
  *
  *   - A pointer is never NULL, and points to at least as many elements as the length behind it says, or as the brackets of the
  *     parameter say. This holds for length 0 too: then any pointer to an object of the type will do.
- *   - Pointers to double, size_t and int64_t are aligned to 8 bytes, as C's own objects of these types are.
+ *   - Pointers to double, size_t and int64_t are aligned to 8 bytes, pointers to uint32_t to 4, as C's own objects of these types are.
  *   - What a call may write (every pointer without `const`) overlaps nothing else that the same call is lent.
  *   - Nothing else writes what a call is lent while the call runs.
  *   - A bool is true or false.
@@ -86,10 +86,10 @@ enum chemstation_text_number {
  *
  * GIVEN: `header` and `corrections` hold what the places above name. The records begin header[CHEMSTATION_SIZE] bytes into the
  * file. text_starts[i] and text_lengths[i] are where text i + 1 stands in the header, in bytes as stored; 0 and 0 for an empty one.
- * `numbers` and `counts` are the state before the first record, for chemstation_fill.
+ * `numbers`, `counts` and *stored_time, which is 0, are the state before the first record, for chemstation_fill.
  * MORE_BYTES, or a refusal (1 to 10, 14): nothing is written. */
 uint8_t chemstation_open(uint8_t kind, const uint8_t *bytes, size_t length, bool last, size_t header[5], double corrections[4],
-                         size_t text_starts[8], size_t text_lengths[8], double numbers[6], size_t counts[4]);
+                         size_t text_starts[8], size_t text_lengths[8], double numbers[6], size_t counts[4], uint32_t *stored_time);
 
 /* Fetches a text by its number, 1 to 8, in UTF-8. The bytes are a file's, at least its whole header; they are taken as the last.
  *
@@ -99,29 +99,37 @@ uint8_t chemstation_open(uint8_t kind, const uint8_t *bytes, size_t length, bool
 uint8_t chemstation_text(uint8_t kind, uint8_t number, const uint8_t *bytes, size_t length, uint8_t *text, size_t room,
                          size_t *text_length);
 
-/* Reads records into four columns of one length, given the state, the bytes behind those consumed so far, and whether the file
- * ends with them. Record i is time[i], axis[i], unscaled[i], scaled[i]: minutes; m/z for MS, nanometres for DAD and UV, 0.0 for the
- * other kinds; the intensity before and after the corrections. The bits of a NaN are not promised, only that it is one.
+/* Reads records into six columns of one length, given the state, the bytes behind those consumed so far, and whether the file
+ * ends with them. Record i is time[i], axis[i], unscaled[i], scaled[i], minutes[i], leftover[i]: minutes; m/z for MS, nanometres for
+ * DAD and UV, 0.0 for the other kinds; the intensity before and after the corrections; the time of the record's scan as the file
+ * stores it, in milliseconds, as whole minutes and the milliseconds left over, both 0 for FID, MWD and array, which store none. The
+ * leftover is below 60,000, and minutes[i] * 60000 + leftover[i] is the stored number. The bits of a NaN are not promised, only that it
+ * is one.
  *
  * given[CHEMSTATION_RECORDS] records stand at the start of the columns, the places behind them are as they were, and the records
- * took the first given[CHEMSTATION_CONSUMED] bytes. `numbers` and `counts` are the state after the last of them. So it is with each
- * of these answers:
+ * took the first given[CHEMSTATION_CONSUMED] bytes. `numbers`, `counts` and *stored_time are the state after the last of them. So it
+ * is with each of these answers:
  * FULL: there may be more. MORE_BYTES: there are more, or a refusal is due, and the bytes do not tell. FINISHED: the run has
  * ended. A refusal (11 to 14): it cannot be read on.
  * LENT_LENGTH, the lengths differ: no record is given, both numbers of `given` are 0, the columns are as they were, and so is the
  * state (with 0 in the places that its kind has no use for).
  * UNKNOWN_KIND, counts[0] is not 1 to 6: both numbers of `given` are 0, and nothing else is written.
  *
- * The state, for who stores it: numbers = time, intensity, slope or wavelength, step, multiplier, offset; counts = kind, scans due,
- * points or bytes due, record type (0 single, else double precision); 0 where the kind has no such number.
+ * The state, for who stores it: numbers = time (in minutes; of DAD the scan's, in milliseconds), intensity, slope or wavelength, step,
+ * multiplier, offset; counts = kind, scans due, points or bytes due, record type (0 single, else double precision); *stored_time = the
+ * stored time of the scan, in milliseconds; 0 where the kind has no such number. Time and intensity: all kinds; slope: FID;
+ * wavelength: DAD, UV; step: all but MS; multiplier: all but MS and DAD; offset: FID, MWD; scans due: MS, DAD, UV, array; points due: MS,
+ * MWD, UV; bytes due: DAD; record type: array; stored time: MS, DAD, UV. Any stored time goes with any numbers and counts: within a
+ * scan `minutes` and `leftover` come of it alone, and `time` of numbers[0] alone.
  *
  * A run in parts: open it with as many bytes as are at hand, more after MORE_BYTES; drop the header's bytes. Then fill, use the rows,
  * drop the bytes consumed, put more behind those that are left where the answer was MORE_BYTES, and fill again until another
  * answer than FULL or MORE_BYTES comes. However the bytes are cut, the same records come. A record with the empty MS scans before it
  * has to stand in the buffer as a whole: if a full buffer gives MORE_BYTES and no record, it is too small. */
-uint8_t chemstation_fill(double numbers[6], size_t counts[4], const uint8_t *bytes, size_t length, bool last, double *time,
-                         size_t time_length, double *axis, size_t axis_length, double *unscaled, size_t unscaled_length,
-                         double *scaled, size_t scaled_length, size_t given[2]);
+uint8_t chemstation_fill(double numbers[6], size_t counts[4], uint32_t *stored_time, const uint8_t *bytes, size_t length, bool last,
+                         double *time, size_t time_length, double *axis, size_t axis_length, double *unscaled,
+                         size_t unscaled_length, double *scaled, size_t scaled_length, uint32_t *minutes, size_t minutes_length,
+                         uint32_t *leftover, size_t leftover_length, size_t given[2]);
 
 /* Adds the values of a column, one after the other, to *sum, in whole numbers. The caller sets *sum to 0 before the first column; a
  * run in parts goes on with the same *sum. What is added up of a run is `unscaled`, the given[CHEMSTATION_RECORDS] values of each

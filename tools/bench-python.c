@@ -1,4 +1,4 @@
-/* One turn of tools/bench-python in C: KIND FILE PLACES prints the records, the milliseconds from the file's name to four new columns
+/* One turn of tools/bench-python in C: KIND FILE PLACES prints the records, the milliseconds from the file's name to six new columns
  * of so many places filled by one call, and those of the same call over the columns once more. */
 #include <fcntl.h>
 #include <stdio.h>
@@ -14,6 +14,12 @@ struct run {
     size_t length, header[5];
     double numbers[6];
     size_t counts[4];
+    uint32_t stored_time;
+};
+
+struct columns {
+    double *time, *axis, *unscaled, *scaled;
+    uint32_t *minutes, *leftover;
 };
 
 static double milliseconds(void) {
@@ -32,25 +38,29 @@ static bool open_run(uint8_t kind, const char *name, struct run *run) {
     run->length = (size_t)file.st_size;
     run->bytes = mmap(NULL, run->length, PROT_READ, MAP_PRIVATE, at, 0);
     return run->bytes != MAP_FAILED && chemstation_open(kind, run->bytes, run->length, true, run->header, corrections, starts, lengths,
-                                                        run->numbers, run->counts) == CHEMSTATION_GIVEN;
+                                                        run->numbers, run->counts, &run->stored_time) == CHEMSTATION_GIVEN;
+}
+
+static struct columns allocated(size_t places) {
+    size_t doubles = places * sizeof(double), wholes = places * sizeof(uint32_t);
+    return (struct columns){malloc(doubles), malloc(doubles), malloc(doubles), malloc(doubles), malloc(wholes), malloc(wholes)};
 }
 
 /* The records; the state in `run` stays. */
-static size_t fill(struct run run, double *columns[4], size_t places) {
+static size_t fill(struct run run, struct columns c, size_t places) {
     size_t given[2], size = run.header[CHEMSTATION_SIZE];
-    chemstation_fill(run.numbers, run.counts, run.bytes + size, run.length - size, true, columns[0], places, columns[1], places,
-                     columns[2], places, columns[3], places, given);
+    chemstation_fill(run.numbers, run.counts, &run.stored_time, run.bytes + size, run.length - size, true, c.time, places, c.axis,
+                     places, c.unscaled, places, c.scaled, places, c.minutes, places, c.leftover, places, given);
     return given[CHEMSTATION_RECORDS];
 }
 
 int main(int count, char **words) {
     struct run run;
-    double *columns[4], start = milliseconds();
+    double start = milliseconds();
     if (count != 4 || !open_run((uint8_t)atoi(words[1]), words[2], &run))
         return 1;
     size_t places = strtoul(words[3], NULL, 10);
-    for (size_t i = 0; i < 4; i++)
-        columns[i] = malloc(places * sizeof *columns[i]);
+    struct columns columns = allocated(places);
     size_t records = fill(run, columns, places);
     double first = milliseconds();
     fill(run, columns, places);

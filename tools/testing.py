@@ -155,6 +155,45 @@ def with_sum(kind, log):
     return "".join([*lines[:-1], f"t {total}\n", lines[-1]])
 
 
+# ---- stored times
+
+# Times as they are stored, in milliseconds, and their whole minutes and leftover milliseconds, by hand.
+TIMES = {0: (0, 0), 1: (0, 1), 59999: (0, 59999), 60000: (1, 0), 60001: (1, 1), 119999: (1, 59999), 4294967295: (71582, 47295)}
+
+# A scan with its stored time and so many points; the bytes that no rule reads are EE.
+SCANS = {
+    2: lambda time, points: be("HI", 14 + 2 * points, time) + b"\xEE" * 12 + be("HH", 1000, 5) * points + b"\xEE" * 10,
+    4: lambda time, points: le("HHIHHH", 67, 22 + 2 * points, time, 4000, 0xEEEE, 40) + b"\xEE" * 8 + le("h", 5) * points,
+    5: lambda time, points: b"\xEE" * 4 + le("IHHH", time, 4000, 4000 + 20 * (points - 1), 20) + b"\xEE" * 8 + le("h", 5) * points,
+}
+
+
+def timed(kind, scans):
+    """An MS, DAD or UV run of scans: the stored time and the points of each. It closes with 0 unless UV has a scan of one point."""
+    return plain(kind, scans=len(scans)) + b"".join(SCANS[kind](*scan) for scan in scans)
+
+
+def pairs_of(kind, scans):
+    """The whole minutes and leftovers of such a run's records, a pair each. Of DAD's last scan only the first point comes."""
+    pairs = [TIMES[time] for time, points in scans for _ in range(points)]
+    return pairs[: 1 - scans[-1][1]] if kind == 4 and scans[-1][1] > 1 else pairs
+
+
+def timed_runs():
+    """Such runs: what each is, its kind, and its scans."""
+    for kind in SCANS:
+        yield "the stored times", kind, [(time, 3) for time in TIMES]
+        yield "the stored times backward", kind, [(time, 2) for time in reversed(TIMES)]
+        yield "a long run of the stored times", kind, [(time, 70) for time in TIMES] * 20
+    yield "empty scans of other times", 2, [(1, 0), (119999, 0), (60001, 2), (4294967295, 0), (59999, 1), (60000, 0)]
+
+
+def pair_of(line):
+    """The whole minutes and the leftover of a line r whose record has an axis: its double gives the stored time again. Else nothing."""
+    words = line.split(" ")
+    return divmod(round(number_of(words[1]) * 60000), 60000) if words[2] != "-" else ()
+
+
 def changed(env):
     """The environment with these variables."""
     return {**os.environ, **{name: str(value) for name, value in env.items()}}

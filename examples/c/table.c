@@ -2,7 +2,9 @@
  *
  *     table [--log] KIND FILE
  *
- * KIND is a digit: 1 FID, 2 MS, 3 MWD, 4 DAD, 5 UV, 6 array. --log prints the log program's lines (README.md) in its place.
+ * KIND is a digit: 1 FID, 2 MS, 3 MWD, 4 DAD, 5 UV, 6 array. --log prints the log program's lines (README.md) in its place. The table
+ * has times in minutes; for MS, DAD and UV the time as the file stores it stands behind the intensities, in whole minutes and the
+ * milliseconds left over.
  * Status: 0 the run closed with 0; 1 another answer closed it, or the output could not be written; 2 wrong usage, or a file that
  * cannot be read. */
 #include <errno.h>
@@ -55,6 +57,12 @@ struct part {
 struct state {
     double numbers[6];
     size_t counts[4];
+    uint32_t stored_time;
+};
+
+struct columns {
+    double time[ROWS], axis[ROWS], unscaled[ROWS], scaled[ROWS];
+    uint32_t minutes[ROWS], leftover[ROWS];
 };
 
 /* The sum of the unscaled values so far; once refused it stays so. */
@@ -77,6 +85,7 @@ static bool last(const struct part *p) { return p->length < BUFFER; }
 /* The values of an array run are not added up. */
 static bool has_sum(uint8_t kind) { return kind != CHEMSTATION_ARRAY; }
 
+/* The kinds with an axis are those with a stored time. */
 static bool has_axis(uint8_t kind) { return kind == CHEMSTATION_MS || kind == CHEMSTATION_DAD || kind == CHEMSTATION_UV; }
 
 static void put_text(const uint8_t *text, size_t length) {
@@ -114,7 +123,8 @@ static void put_header(uint8_t kind, const struct part *p, const size_t header[5
             printf("(%s)", meaning_of(answer));
         putchar('\n');
     }
-    printf("time\t%s\tunscaled\tscaled\n", kind == CHEMSTATION_MS ? "m/z" : has_axis(kind) ? "wavelength" : "-");
+    printf("time\t%s\tunscaled\tscaled", kind == CHEMSTATION_MS ? "m/z" : has_axis(kind) ? "wavelength" : "-");
+    printf(has_axis(kind) ? "\tminutes\tleftover\n" : "\n");
 }
 
 /* A double as the log program writes it: 16 digits of its bits, or nan. */
@@ -128,26 +138,30 @@ static void put_bits(double x) {
     printf(" %016llX", bits);
 }
 
-static void put_row(bool log, bool axis, double t, double a, double u, double s) {
-    if (log) {
-        putchar('r');
-        put_bits(t);
-        if (axis)
-            put_bits(a);
-        else
-            printf(" -");
-        put_bits(u);
-        put_bits(s);
-        putchar('\n');
-        return;
-    }
-    put_number(t, '\t');
+/* Record i as a line of the log. */
+static void put_line(bool axis, const struct columns *c, size_t i) {
+    putchar('r');
+    put_bits(c->time[i]);
     if (axis)
-        put_number(a, '\t');
+        put_bits(c->axis[i]);
+    else
+        printf(" -");
+    put_bits(c->unscaled[i]);
+    put_bits(c->scaled[i]);
+    putchar('\n');
+}
+
+/* Record i as a row of the table. */
+static void put_row(bool axis, const struct columns *c, size_t i) {
+    put_number(c->time[i], '\t');
+    if (axis)
+        put_number(c->axis[i], '\t');
     else
         printf("-\t");
-    put_number(u, '\t');
-    put_number(s, '\n');
+    put_number(c->unscaled[i], '\t');
+    put_number(c->scaled[i], axis ? '\t' : '\n');
+    if (axis)
+        printf("%" PRIu32 "\t%" PRIu32 "\n", c->minutes[i], c->leftover[i]);
 }
 
 static void add_up(struct total *t, const double *unscaled, size_t count) {
@@ -173,18 +187,23 @@ static int put_end(bool log, uint8_t answer, unsigned long long count) {
     return answer == CHEMSTATION_FINISHED ? 0 : 1;
 }
 
+/* The records of the bytes at hand. */
+static uint8_t fill(struct state *st, const struct part *p, struct columns *c, size_t given[2]) {
+    return chemstation_fill(st->numbers, st->counts, &st->stored_time, p->bytes, p->length, last(p), c->time, ROWS, c->axis, ROWS,
+                            c->unscaled, ROWS, c->scaled, ROWS, c->minutes, ROWS, c->leftover, ROWS, given);
+}
+
 /* The records, behind the header, and their sum. */
 static int put_records(bool log, uint8_t kind, struct part *p, struct state *st) {
-    static double time[ROWS], axes[ROWS], unscaled[ROWS], scaled[ROWS];
+    static struct columns c;
     struct total total = {0, false};
     unsigned long long count = 0;
     for (;;) {
         size_t given[2] = {0};
-        uint8_t answer = chemstation_fill(st->numbers, st->counts, p->bytes, p->length, last(p), time, ROWS, axes, ROWS, unscaled,
-                                          ROWS, scaled, ROWS, given);
+        uint8_t answer = fill(st, p, &c, given);
         for (size_t i = 0; i < given[CHEMSTATION_RECORDS]; i++)
-            put_row(log, has_axis(kind), time[i], axes[i], unscaled[i], scaled[i]);
-        add_up(&total, unscaled, given[CHEMSTATION_RECORDS]);
+            (log ? put_line : put_row)(has_axis(kind), &c, i);
+        add_up(&total, c.unscaled, given[CHEMSTATION_RECORDS]);
         count += given[CHEMSTATION_RECORDS];
         bool stuck = answer == CHEMSTATION_MORE_BYTES && given[CHEMSTATION_CONSUMED] == 0;
         if ((answer != CHEMSTATION_FULL && answer != CHEMSTATION_MORE_BYTES) || stuck) {
@@ -200,11 +219,11 @@ static int put_records(bool log, uint8_t kind, struct part *p, struct state *st)
 static int put_run(bool log, uint8_t kind, struct part *p) {
     size_t header[5] = {0}, text_starts[8] = {0}, text_lengths[8] = {0};
     double corrections[4] = {0};
-    struct state st = {{0}, {0}};
+    struct state st = {{0}, {0}, 0};
     if (!refill(p, 0))
         return 2;
     uint8_t answer = chemstation_open(kind, p->bytes, p->length, last(p), header, corrections, text_starts, text_lengths, st.numbers,
-                                      st.counts);
+                                      st.counts, &st.stored_time);
     if (answer != CHEMSTATION_GIVEN)
         return put_end(log, answer, 0);
     if (log)

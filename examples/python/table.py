@@ -25,9 +25,9 @@ def bits(x):
     return "nan" if math.isnan(x) else struct.pack(">d", x).hex().upper()
 
 
-def rows(run, written):
-    for time, axis, unscaled, scaled in run.records():
-        yield written(time), written(axis) if run.axis_name else "-", written(unscaled), written(scaled)
+def row(run, record, written):
+    """The doubles of a record."""
+    return written(record.time), written(record.axis) if run.axis_name else "-", written(record.unscaled), written(record.scaled)
 
 
 def total(run, name):
@@ -41,20 +41,24 @@ def total(run, name):
 
 def log(run):
     yield "h", run.edition, run.size
-    yield from (("r", *row) for row in rows(run, bits))
+    yield from (("r", *row(run, record, bits)) for record in run.records())
     yield from total(run, "t")
 
 
 def table(run):
     yield from ((name, getattr(run, name)) for name in NUMBERS)
     yield from ((name.replace("_", " "), text) for name, text in run.texts.items())
-    yield "time", run.axis_name or "-", "unscaled", "scaled"
-    yield from rows(run, repr)
+    stored = ("minutes", "leftover") if run.axis_name else ()  # the kinds with an axis are those with a stored time
+    yield ("time", run.axis_name or "-", "unscaled", "scaled", *stored)
+    for record in run.records():
+        yield (*row(run, record, repr), *(getattr(record, name) for name in stored))
     yield from total(run, "sum")
 
 
 def main():
-    parser = argparse.ArgumentParser(description="Prints a run as a table, its columns divided by tabs.")
+    parser = argparse.ArgumentParser(
+        description="Prints a run as a table, its columns divided by tabs. Times are in minutes; for MS, DAD and UV the time as the file "
+        "stores it stands behind the intensities, in whole minutes and the milliseconds left over.")
     parser.add_argument("--log", action="store_true", help="print the log program's lines (README.md) in its place")
     parser.add_argument("kind", metavar="KIND", help="1 FID, 2 MS, 3 MWD, 4 DAD, 5 UV, 6 array, by number or name")
     parser.add_argument("file", metavar="FILE")

@@ -3,6 +3,7 @@
 KINDS = {1: "FID", 2: "MS", 3: "MWD", 4: "DAD", 5: "UV", 6: "array"}
 FID, MS, MWD, DAD, UV, ARRAY = KINDS
 AXES = {MS: "m/z", DAD: "wavelength", UV: "wavelength"}  # what the axis of a record is, where the kind has one
+TIMED = [MS, DAD, UV]  # the kinds whose files store a time with each scan
 SUMMED = [FID, MS, MWD, DAD, UV]  # the kinds whose unscaled values are added up: their logs have a line `t`
 NO_SUM = 17  # the answer to a column that does not add up; it closes no run
 

@@ -2,11 +2,14 @@
 import ctypes
 import functools
 import os
-from ctypes import POINTER, c_bool, c_double, c_int64, c_size_t, c_ubyte
+from ctypes import POINTER, c_bool, c_double, c_int64, c_size_t, c_ubyte, c_uint32
 from pathlib import Path
 
 BUILT = Path(__file__).resolve().parent.parent.parent / "target/lib/libchemstation.so"
 FINISHED, GIVEN = 0, 103
+
+# The columns of Fill in its order: their names, and what a place of each holds.
+COLUMNS = {"time": c_double, "axis": c_double, "unscaled": c_double, "scaled": c_double, "minutes": c_uint32, "leftover": c_uint32}
 
 
 class NoLibrary(Exception):
@@ -22,9 +25,11 @@ def loaded(path):
     except (OSError, AttributeError) as error:
         raise NoLibrary(f"the library cannot be loaded ({error}); tools/build-library makes it, or CHEMSTATION_LIBRARY names it") from None
     slice_, numbers, counts = [POINTER(c_ubyte), c_size_t], POINTER(c_double), POINTER(c_size_t)
-    library.chemstation_open.argtypes = [c_ubyte, *slice_, c_bool, counts, numbers, counts, counts, numbers, counts]
+    state = [numbers, counts, POINTER(c_uint32)]
+    columns = [word for element in COLUMNS.values() for word in (POINTER(element), c_size_t)]
+    library.chemstation_open.argtypes = [c_ubyte, *slice_, c_bool, counts, numbers, counts, counts, *state]
     library.chemstation_text.argtypes = [c_ubyte, c_ubyte, *slice_, *slice_, counts]
-    library.chemstation_fill.argtypes = [numbers, counts, *slice_, c_bool, *[numbers, c_size_t] * 4, counts]
+    library.chemstation_fill.argtypes = [*state, *slice_, c_bool, *columns, counts]
     library.chemstation_sum.argtypes = [numbers, c_size_t, POINTER(c_int64)]
     for function in functions:
         function.restype = c_ubyte

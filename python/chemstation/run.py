@@ -1,7 +1,7 @@
 """A run: what its header says."""
 import builtins
 import mmap
-from ctypes import byref, c_double, c_size_t, c_ubyte
+from ctypes import byref, c_double, c_size_t, c_ubyte, c_uint32
 
 from chemstation.answers import AXES, KINDS, Refused, kind_number
 from chemstation.columns import Reading
@@ -38,7 +38,7 @@ class Run:
         kind = kind_number(kind)
         self._memory, self.length = held(source)
         header, corrections, places = (c_size_t * 5)(), (c_double * 4)(), (c_size_t * 8)
-        self._state, self._columns = ((c_double * 6)(), (c_size_t * 4)()), None
+        self._state, self._columns = ((c_double * 6)(), (c_size_t * 4)(), (c_uint32 * 1)()), None
         number = kind if 0 <= kind < 256 else 0  # the library takes a byte; no kind is above 6
         texts = places(), places()
         taken(library().chemstation_open(number, self._bytes(), self.length, True, header, corrections, *texts, *self._state))
@@ -59,7 +59,7 @@ class Run:
     def columns(self):
         """All records as columns, read by one call the first time: a Columns."""
         if self._columns is None:
-            self._columns = Reading(self._memory, *self._state).columns(self.size, self.length - self.size)
+            self._columns = Reading(self._memory, self._state).columns(self.size, self.length - self.size)
         return self._columns
 
     def records(self):

@@ -2,12 +2,14 @@
 import csv
 import os
 
+from chemstation.answers import TIMED
 from press import advice, cli, show
 
 HELP = "a run as text or CSV"
 DESCRIPTION = (
     "Prints a run as a table: a row for each record, with its time in minutes, its m/z (MS) or its wavelength in nanometres (DAD, UV), and "
-    "its intensity before and after scaling. Each number is written with the digits that give its double again. Text has what the header "
+    "its intensity before and after scaling. For MS, DAD and UV two more columns, minutes and leftover, have the time as the file stores it, "
+    "in whole minutes and the milliseconds left over. Each double is written with the digits that give it again. Text has what the header "
     "says above the table, and below it the sum of the unscaled intensities (not for array) and what closed the run. CSV (--csv) has a "
     "line of names and the rows, and where another answer than 0 closed the run a last line that says so and begins with #."
 )
@@ -24,7 +26,8 @@ def named(opened):
     """The columns that the kind has, by name."""
     columns = opened.columns()
     axis = {opened.axis_name: columns.axis} if opened.axis_name else {}
-    return {"time": columns.time, **axis, "unscaled": columns.unscaled, "scaled": columns.scaled}
+    stored = {"minutes": columns.minutes, "leftover": columns.leftover} if opened.kind in TIMED else {}
+    return {"time": columns.time, **axis, "unscaled": columns.unscaled, "scaled": columns.scaled, **stored}
 
 
 def as_csv(opened, out):

@@ -1,9 +1,10 @@
 //! Fill columns of the library beside the original's `parse` and `get`: one run, by each into four columns of doubles.
 //!
-//! Both sides open the run, read it to its end, told that the bytes are the last, and write four doubles a record. The original
+//! Both sides open the run, read it to its end, told that the bytes are the last, and write four doubles a record; the library
+//! writes two u32 a record more, the stored time in minutes and leftover milliseconds, which the original does not keep. The original
 //! keeps the unscaled intensity to itself: where it is timed, the scaled one goes to that column too. Before anything is timed,
-//! all columns of the library are compared with the original's, the unscaled one with what the driver finds in the
-//! original's state.
+//! the four columns of the library are compared with the original's, the unscaled one with what the driver finds in the
+//! original's state, and the two others with the original's time.
 
 use std::hint::black_box;
 use std::time::Instant;
@@ -32,10 +33,12 @@ extern "C" {
         text_lengths: *mut usize,
         numbers: *mut f64,
         counts: *mut usize,
+        stored_time: *mut u32,
     ) -> u8;
     fn chemstation_fill(
         numbers: *mut f64,
         counts: *mut usize,
+        stored_time: *mut u32,
         bytes: *const u8,
         length: usize,
         last: bool,
@@ -47,26 +50,32 @@ extern "C" {
         unscaled_length: usize,
         scaled: *mut f64,
         scaled_length: usize,
+        minutes: *mut u32,
+        minutes_length: usize,
+        leftover: *mut u32,
+        leftover_length: usize,
         given: *mut usize,
     ) -> u8;
 }
 
-/// Four columns: time, axis, unscaled, scaled.
-struct Columns([Vec<f64>; 4]);
+/// Four columns: time, axis, unscaled, scaled; and the library's two more: minutes, leftover.
+struct Columns([Vec<f64>; 4], [Vec<u32>; 2]);
 
 impl Columns {
     fn with_room(rows: usize) -> Columns {
-        Columns([(); 4].map(|_| Vec::with_capacity(rows)))
+        Columns([(); 4].map(|_| Vec::with_capacity(rows)), [(); 2].map(|_| Vec::with_capacity(rows)))
     }
 
     fn clear(&mut self) {
         self.0.iter_mut().for_each(Vec::clear);
+        self.1.iter_mut().for_each(Vec::clear);
     }
 
     /// So many rows of zeros.
     fn zero(&mut self, rows: usize) {
         self.clear();
         self.0.iter_mut().for_each(|column| column.resize(rows, 0.0));
+        self.1.iter_mut().for_each(|column| column.resize(rows, 0));
     }
 
     fn push(&mut self, time: f64, axis: f64, unscaled: f64, scaled: f64) {
@@ -148,8 +157,8 @@ fn expected_of(kind: u8, file: &[u8], out: &mut Columns) {
 /// The record count.
 fn library(kind: u8, file: &[u8], out: &mut Columns) -> usize {
     let (mut header, mut starts, mut lengths) = ([0; 5], [0; 8], [0; 8]);
-    let (mut corrections, mut numbers, mut counts, mut given) = ([0.0; 4], [0.0; 6], [0; 4], [0; 2]);
-    let [t, a, u, s] = &mut out.0;
+    let (mut corrections, mut numbers, mut counts, mut stored, mut given) = ([0.0; 4], [0.0; 6], [0; 4], 0, [0; 2]);
+    let ([t, a, u, s], [m, l]) = (&mut out.0, &mut out.1);
     // Each pointer is to so many elements as are told beside it, and nothing overlaps.
     unsafe {
         let opened = chemstation_open(
@@ -163,6 +172,7 @@ fn library(kind: u8, file: &[u8], out: &mut Columns) -> usize {
             lengths.as_mut_ptr(),
             numbers.as_mut_ptr(),
             counts.as_mut_ptr(),
+            &mut stored,
         );
         if opened != 103 {
             return 0;
@@ -171,6 +181,7 @@ fn library(kind: u8, file: &[u8], out: &mut Columns) -> usize {
         chemstation_fill(
             numbers.as_mut_ptr(),
             counts.as_mut_ptr(),
+            &mut stored,
             rest.as_ptr(),
             rest.len(),
             true,
@@ -182,6 +193,10 @@ fn library(kind: u8, file: &[u8], out: &mut Columns) -> usize {
             u.len(),
             s.as_mut_ptr(),
             s.len(),
+            m.as_mut_ptr(),
+            m.len(),
+            l.as_mut_ptr(),
+            l.len(),
             given.as_mut_ptr(),
         );
     }
@@ -194,6 +209,13 @@ fn library(kind: u8, file: &[u8], out: &mut Columns) -> usize {
 fn difference(a: &[f64], b: &[f64]) -> Option<usize> {
     let same = |x: &f64, y: &f64| x.to_bits() == y.to_bits() || (x.is_nan() && y.is_nan());
     (0..a.len().max(b.len())).find(|&i| !matches!((a.get(i), b.get(i)), (Some(x), Some(y)) if same(x, y)))
+}
+
+/// The first record whose minutes and leftover are not the original's time; 0 and 0 are due for a kind that stores none.
+fn mistimed(kind: u8, times: &[f64], minutes: &[u32], leftover: &[u32]) -> Option<usize> {
+    let stores = matches!(kind, 2 | 4 | 5);
+    let right = |t: f64, m: u32, l: u32| if stores { l < 60000 && f64::from(m * 60000 + l) / 60000.0 == t } else { m == 0 && l == 0 };
+    (0..times.len()).find(|&i| !right(times[i], minutes[i], leftover[i]))
 }
 
 /// The record count, where both sides give the same columns.
@@ -211,7 +233,10 @@ fn compared(kind: u8, file: &[u8], rows: usize) -> Result<usize, String> {
             return Err(format!("what is timed of the original has another {}", name));
         }
     }
-    Ok(count)
+    match mistimed(kind, &theirs.0[0], &ours.1[0], &ours.1[1]) {
+        Some(at) => Err(format!("the stored time of record {} differs", at)),
+        None => Ok(count),
+    }
 }
 
 fn seconds(work: impl FnOnce()) -> f64 {

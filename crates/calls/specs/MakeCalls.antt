@@ -81,6 +81,8 @@ columnsFrom i rs old = record {
   axis = take i (old .axis) ++ filledWith (λ r. r .axis) rs (drop i (old .axis));
   unscaled = take i (old .unscaled) ++ filledWith (λ r. r .unscaled) rs (drop i (old .unscaled));
   scaled = take i (old .scaled) ++ filledWith (λ r. r .scaled) rs (drop i (old .scaled));
+  minutes = take i (old .minutes) ++ filledWith (λ r. r .minutes) rs (drop i (old .minutes));
+  leftover = take i (old .leftover) ++ filledWith (λ r. r .leftover) rs (drop i (old .leftover));
 }
 
 -- the answer r and the columns before and after, by what is read: as Fill columns, from row i on

@@ -71,9 +71,11 @@ fn next_row(
     axis: &mut [f64],
     unscaled: &mut [f64],
     scaled: &mut [f64],
+    minutes: &mut [u32],
+    leftover: &mut [u32],
 ) -> Filled
-    requires { ⌜ Room (i + 1) (columns (now time) (now axis) (now unscaled) (now scaled)) ⌝ }
-    ensures { λ r. ⌜ Gives next st (now (s .entry)) i r (lentColumns time axis unscaled scaled) ⌝ }
+    requires { ⌜ Room (i + 1) (columns (now time) (now axis) (now unscaled) (now scaled) (now minutes) (now leftover)) ⌝ }
+    ensures { λ r. ⌜ Gives next st (now (s .entry)) i r (lentColumns time axis unscaled scaled minutes leftover) ⌝ }
 {
     match chemstation::next_record(st, s, false) {
         Next::Stopped(z) => Filled {
@@ -88,6 +90,8 @@ fn next_row(
             axis[i] = row.axis;
             unscaled[i] = row.unscaled;
             scaled[i] = row.scaled;
+            minutes[i] = row.minutes;
+            leftover[i] = row.leftover;
             Filled {
                 count: 1,
                 consumed: k,
@@ -106,6 +110,8 @@ fn fill_unequal(st: State, s: &[u8]) -> Filled
     let mut axis = [0.0; 1];
     let mut unscaled = [0.0; 1];
     let mut scaled = [0.0; 1];
+    let mut minutes = [0u32; 1];
+    let mut leftover = [0u32; 1];
     reader::fill_columns(
         st,
         s,
@@ -114,6 +120,8 @@ fn fill_unequal(st: State, s: &[u8]) -> Filled
         &mut axis,
         &mut unscaled,
         &mut scaled,
+        &mut minutes,
+        &mut leftover,
     )
 }
 
@@ -127,12 +135,14 @@ fn one_call(
     axis: &mut [f64],
     unscaled: &mut [f64],
     scaled: &mut [f64],
+    minutes: &mut [u32],
+    leftover: &mut [u32],
 ) -> Filled
-    requires { ⌜ Room (i + asks (callOf call)) (columns (now time) (now axis) (now unscaled) (now scaled)) ⌝ }
-    ensures { λ r. ⌜ Gives (callOf call) st (now (s .entry)) i r (lentColumns time axis unscaled scaled) ⌝ }
+    requires { ⌜ Room (i + asks (callOf call)) (columns (now time) (now axis) (now unscaled) (now scaled) (now minutes) (now leftover)) ⌝ }
+    ensures { λ r. ⌜ Gives (callOf call) st (now (s .entry)) i r (lentColumns time axis unscaled scaled minutes leftover) ⌝ }
 {
     match call {
-        0 => next_row(st, s, i, time, axis, unscaled, scaled),
+        0 => next_row(st, s, i, time, axis, unscaled, scaled, minutes, leftover),
         1 => fill_unequal(st, s),
         _ => {
             let end = i + asked_by(call);
@@ -144,6 +154,8 @@ fn one_call(
                 &mut axis[i..end],
                 &mut unscaled[i..end],
                 &mut scaled[i..end],
+                &mut minutes[i..end],
+                &mut leftover[i..end],
             )
         }
     }
@@ -175,9 +187,11 @@ fn calls_from(
     axis: &mut [f64],
     unscaled: &mut [f64],
     scaled: &mut [f64],
+    minutes: &mut [u32],
+    leftover: &mut [u32],
 ) -> AllCalls
-    requires { ⌜ Room n (columns (now time) (now axis) (now unscaled) (now scaled)) × (n ≡ asked (callsOf (now calls))) ⌝ }
-    ensures { λ r. ⌜ ComesTo (called rule (callsOf (now (calls .entry))) st (now (s .entry))) n r (lentColumns time axis unscaled scaled) ⌝ }
+    requires { ⌜ Room n (columns (now time) (now axis) (now unscaled) (now scaled) (now minutes) (now leftover)) × (n ≡ asked (callsOf (now calls))) ⌝ }
+    ensures { λ r. ⌜ ComesTo (called rule (callsOf (now (calls .entry))) st (now (s .entry))) n r (lentColumns time axis unscaled scaled minutes leftover) ⌝ }
 {
     let mut cur = st;
     let mut at: usize = 0;
@@ -186,7 +200,18 @@ fn calls_from(
     let mut j: usize = 0;
     while j < calls.len() {
         let call = calls[j];
-        let f = one_call(call, cur, &s[at..], rows, time, axis, unscaled, scaled);
+        let f = one_call(
+            call,
+            cur,
+            &s[at..],
+            rows,
+            time,
+            axis,
+            unscaled,
+            scaled,
+            minutes,
+            leftover,
+        );
         let answer = f.closing;
         closing = first_fewer(closing, call, f.count, answer);
         let after = f.state;
@@ -212,11 +237,20 @@ pub fn make_calls(
     axis: &mut [f64],
     unscaled: &mut [f64],
     scaled: &mut [f64],
+    minutes: &mut [u32],
+    leftover: &mut [u32],
 ) -> AllCalls
-    ensures { λ r. ⌜ Makes kind (callsOf (now (calls .entry))) (now (file .entry)) r (lentColumns time axis unscaled scaled) ⌝ }
+    ensures { λ r. ⌜ Makes kind (callsOf (now (calls .entry))) (now (file .entry)) r (lentColumns time axis unscaled scaled minutes leftover) ⌝ }
 {
     demand3::demand_three();
-    if !reader::all_equal(time.len(), axis.len(), unscaled.len(), scaled.len()) {
+    if !reader::all_equal(
+        time.len(),
+        axis.len(),
+        unscaled.len(),
+        scaled.len(),
+        minutes.len(),
+        leftover.len(),
+    ) {
         return AllCalls::Unequal;
     }
     let Asked::Records(n) = asked_by_all(calls, time.len()) else {
@@ -231,7 +265,18 @@ pub fn make_calls(
             closing: Closing::Stopped(z),
         },
         Opening::Run(st, size) => {
-            calls_from(n, st, &file[size..], calls, time, axis, unscaled, scaled)
+            calls_from(
+                n,
+                st,
+                &file[size..],
+                calls,
+                time,
+                axis,
+                unscaled,
+                scaled,
+                minutes,
+                leftover,
+            )
         }
     }
 }

@@ -1,6 +1,6 @@
 -- What Open, Fetch a text, Fill columns and a sum promise, as an answer by its number and lent memory.
 use mathlib.Core.Path.{_≡_, refl, sym, ap, ap₂, _∙_, subst}
-use mathlib.Core.Bool.{Bool}
+use mathlib.Core.Bool.{Bool, false≢true}
 use mathlib.Core.List.{List, [], _∷_}
 use Prim.Native.Nat.{ℕ}
 use lib.IntN.{ℤ}
@@ -21,7 +21,9 @@ use Rattle.opening.specs.declared.OpenedRun.{OpenedRun}
 use Rattle.reader.specs.declared.Filled.{Filled}
 use Rattle.sums.specs.declared.Total.{Total}
 use Rattle.states.specs.declared.Kept.the-variants as kept
+use Rattle.streams.specs.Next.{storedOf}
 use Rattle.states.specs.State.{numbersOf, countsOf, stateOf}
+use Rattle.states.proofs.States.{keeps-states}
 use Rattle.chemread.specs.Answers.{outcomeNumber}
 use Rattle.chemread.specs.Lent.{Run, openedAs, OpensInto, sizeAfter, FetchesInto, Filling, FillsInto, SumsInto}
 
@@ -40,12 +42,13 @@ opened-into : (kind : ℕ) (x : Read Header) (d : ChemstationMetadata) (a : Open
 opened-into kind (got h n) d (opening.Run st m) old p q =
     let described : d ≡ h .says = cc in
     let begun : st ≡ begins kind h = cc in
-    record { answer = refl; memory = ap₂ openedAs described begun }
+    let same : (k : Header) (i : ℕ) → got h n ≡ got k i → begins kind h ≡ begins kind k = λ k i e. cc in
+    record { answer = refl; memory = ap₂ openedAs described begun; state = λ k i e. keeps-states st ∙ ap kept.State (begun ∙ same k i e) }
 opened-into kind (got h n) d (opening.Stopped z) old p q = absurd (got≢stops (sym p))
 opened-into kind (stops z) d (opening.Run st m) old p q = absurd (got≢stops p)
 opened-into kind (stops z) d (opening.Stopped y) old p q =
     let same : stopOf y ≡ z = cc in
-    record { answer = ap stopNumber same; memory = refl }
+    record { answer = ap stopNumber same; memory = refl; state = λ k i e. absurd (got≢stops (sym e)) }
 
 pub opens-into : {kind : ℕ} {last : Bool} {s : List ℕ} {r : OpenedRun} (a : Opening) (old : Run) → OpensRun kind last s r → r .answer ≡ a →
     OpensInto kind (read last (openRule kind) s) (openingNumber a) (record { entry = old; exit = openingMemory (r .metadata) a old })
@@ -61,19 +64,26 @@ fetches-into x f g old new n h e =
 
 -- ---- Fill columns
 
-abbrev filled : Filled → Columns → Filling
-filled r new = record { numbers = numbersOf (r .state); counts = countsOf (r .state); columns = new; given = r .count ∷ r .consumed ∷ [] }
+state-is : {st t : State} → kept.State st ≡ kept.State t → st ≡ t
+state-is e = cc
 
-pub fills-into : (st : State) (s : List ℕ) (last : Bool) (r : Filled) (old : Filling) (new : Columns) → stateOf (old .numbers) (old .counts) ≡ kept.State st → FilledBy (fillOf st s last (old .columns)) r (old .columns) new →
+none-is : {t : State} → ¬ (kept.NoKind ≡ kept.State t)
+none-is e = false≢true cc
+
+abbrev filled : Filled → Columns → Filling
+filled r new = record { numbers = numbersOf (r .state); counts = countsOf (r .state); stored = storedOf (r .state); columns = new; given = r .count ∷ r .consumed ∷ [] }
+
+pub fills-into : (st : State) (s : List ℕ) (last : Bool) (r : Filled) (old : Filling) (new : Columns) → stateOf (old .numbers) (old .counts) (old .stored) ≡ kept.State st → FilledBy (fillOf st s last (old .columns)) r (old .columns) new →
     FillsInto s last (closingNumber (closingOf (r .closing))) (record { entry = old; exit = filled r new })
 fills-into st s last r old new e f = record {
   answer = rw e (ap closingNumber (f .closing));
-  memory = rw e λ j. record { numbers = numbersOf (f .state j); counts = countsOf (f .state j); columns = f .columns j; given = f .count j ∷ f .consumed j ∷ [] };
+  memory = rw e λ j. record { numbers = numbersOf (f .state j); counts = countsOf (f .state j); stored = storedOf (f .state j); columns = f .columns j; given = f .count j ∷ f .consumed j ∷ [] };
+  state = λ t h. let same : st ≡ t = state-is (sym e ∙ h) in keeps-states (r .state) ∙ ap kept.State (f .state ∙ ap (λ t. fillOf t s last (old .columns) .state) same);
 }
 
-pub fills-nothing : (s : List ℕ) (last : Bool) (old : Filling) → stateOf (old .numbers) (old .counts) ≡ kept.NoKind →
-    FillsInto s last 1 (record { entry = old; exit = record { numbers = old .numbers; counts = old .counts; columns = old .columns; given = 0 ∷ 0 ∷ [] } })
-fills-nothing s last old e = record { answer = rw e; memory = rw e }
+pub fills-nothing : (s : List ℕ) (last : Bool) (old : Filling) → stateOf (old .numbers) (old .counts) (old .stored) ≡ kept.NoKind →
+    FillsInto s last 1 (record { entry = old; exit = record { numbers = old .numbers; counts = old .counts; stored = old .stored; columns = old .columns; given = 0 ∷ 0 ∷ [] } })
+fills-nothing s last old e = record { answer = rw e; memory = rw e; state = λ t h. absurd (none-is (sym e ∙ h)) }
 
 -- ---- the sum of a column
 

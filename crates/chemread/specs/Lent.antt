@@ -19,6 +19,7 @@ use Rattle.opening.specs.Opening.{begins}
 use Rattle.reader.specs.Columns.{Columns, Lent, columnsWith, fillOf}
 use Rattle.states.specs.declared.Kept.{Kept}
 use Rattle.states.specs.declared.Kept.the-variants as kept
+use Rattle.streams.specs.Next.{storedOf}
 use Rattle.states.specs.State.{numbersOf, countsOf, stateOf}
 use Rattle.error.specs.Number.{closingNumber}
 use Rattle.sums.specs.declared.Total.{Total}
@@ -35,11 +36,12 @@ pub record Run : Type 0 where
   pub «text_lengths» : List ℕ
   pub numbers : List Float
   pub counts : List ℕ
+  pub stored : ℕ
 
-abbrev pub lentRun : Lent (List ℕ) → Lent (List Float) → Lent (List ℕ) → Lent (List ℕ) → Lent (List Float) → Lent (List ℕ) → Both Run Run
-lentRun h c s l x n = record {
-  entry = record { header = now (h .entry); corrections = now (c .entry); «text_starts» = now (s .entry); «text_lengths» = now (l .entry); numbers = now (x .entry); counts = now (n .entry) };
-  exit = record { header = now (h .exit); corrections = now (c .exit); «text_starts» = now (s .exit); «text_lengths» = now (l .exit); numbers = now (x .exit); counts = now (n .exit) };
+abbrev pub lentRun : Lent (List ℕ) → Lent (List Float) → Lent (List ℕ) → Lent (List ℕ) → Lent (List Float) → Lent (List ℕ) → Lent ℕ → Both Run Run
+lentRun h c s l x n t = record {
+  entry = record { header = now (h .entry); corrections = now (c .entry); «text_starts» = now (s .entry); «text_lengths» = now (l .entry); numbers = now (x .entry); counts = now (n .entry); stored = now (t .entry) };
+  exit = record { header = now (h .exit); corrections = now (c .exit); «text_starts» = now (s .exit); «text_lengths» = now (l .exit); numbers = now (x .exit); counts = now (n .exit); stored = now (t .exit) };
 }
 
 abbrev pub headerOf : ChemstationMetadata → List ℕ
@@ -56,6 +58,7 @@ openedAs d st = record {
   «text_lengths» = d .«text_lengths»;
   numbers = numbersOf st;
   counts = countsOf st;
+  stored = storedOf st;
 }
 
 -- a header that was opened, with the state before the first record; or nothing is written
@@ -67,6 +70,8 @@ openedBy kind (stops z) old = old
 pub record OpensInto (kind : ℕ) (x : Read Header) (r : ℕ) (m : Both Run Run) : Type 0 where
   pub answer : r ≡ readNumber x
   pub memory : m .exit ≡ openedBy kind x (m .entry)
+  -- the numbers hold the state before the first record
+  pub state : (h : Header) (n : ℕ) → x ≡ got h n → stateOf (m .exit .numbers) (m .exit .counts) (m .exit .stored) ≡ kept.State (begins kind h)
 
 -- ---- Fetch a text
 
@@ -96,19 +101,21 @@ pub record FetchesInto (x : Read (List ℕ)) (r : ℕ) (m : Both Text Text) : Ty
 pub record Filling : Type 0 where
   pub numbers : List Float
   pub counts : List ℕ
+  pub stored : ℕ
   pub columns : Columns
   pub given : List ℕ
 
-abbrev pub lentFilling : Lent (List Float) → Lent (List ℕ) → Both Columns Columns → Lent (List ℕ) → Both Filling Filling
-lentFilling x n c g = record {
-  entry = record { numbers = now (x .entry); counts = now (n .entry); columns = c .entry; given = now (g .entry) };
-  exit = record { numbers = now (x .exit); counts = now (n .exit); columns = c .exit; given = now (g .exit) };
+abbrev pub lentFilling : Lent (List Float) → Lent (List ℕ) → Lent ℕ → Both Columns Columns → Lent (List ℕ) → Both Filling Filling
+lentFilling x n t c g = record {
+  entry = record { numbers = now (x .entry); counts = now (n .entry); stored = now (t .entry); columns = c .entry; given = now (g .entry) };
+  exit = record { numbers = now (x .exit); counts = now (n .exit); stored = now (t .exit); columns = c .exit; given = now (g .exit) };
 }
 
 abbrev filledBy : Reading State Record → Columns → Filling
 filledBy g old = record {
   numbers = numbersOf (g .state);
   counts = countsOf (g .state);
+  stored = storedOf (g .state);
   columns = columnsWith (g .records) old;
   given = length (g .records) ∷ g .consumed ∷ [];
 }
@@ -116,7 +123,7 @@ filledBy g old = record {
 -- without a state nothing is given, and the rest is as it was
 abbrev fillingAfter : Kept → List ℕ → Bool → Filling → Filling
 fillingAfter (kept.State st) s last old = filledBy (fillOf st s last (old .columns)) (old .columns)
-fillingAfter kept.NoKind s last old = record { numbers = old .numbers; counts = old .counts; columns = old .columns; given = 0 ∷ 0 ∷ [] }
+fillingAfter kept.NoKind s last old = record { numbers = old .numbers; counts = old .counts; stored = old .stored; columns = old .columns; given = 0 ∷ 0 ∷ [] }
 
 abbrev fillingNumber : Kept → List ℕ → Bool → Columns → ℕ
 fillingNumber (kept.State st) s last old = closingNumber (fillOf st s last old .closing)
@@ -124,12 +131,14 @@ fillingNumber kept.NoKind s last old = 1
 
 -- the state that the numbers hold
 abbrev keptIn : Filling → Kept
-keptIn f = stateOf (f .numbers) (f .counts)
+keptIn f = stateOf (f .numbers) (f .counts) (f .stored)
 
 -- the answer r and the lent memory m, from the bytes s
 pub record FillsInto (s : List ℕ) (last : Bool) (r : ℕ) (m : Both Filling Filling) : Type 0 where
   pub answer : r ≡ fillingNumber (keptIn (m .entry)) s last (m .entry .columns)
   pub memory : m .exit ≡ fillingAfter (keptIn (m .entry)) s last (m .entry)
+  -- the numbers hold the state after the last record
+  pub state : (st : State) → keptIn (m .entry) ≡ kept.State st → keptIn (m .exit) ≡ kept.State (fillOf st s last (m .entry .columns) .state)
 
 -- ---- the sum of a column
 

@@ -85,8 +85,9 @@ pub extern "C" fn chemstation_open(
     text_lengths: &mut [usize; 8],
     numbers: &mut [f64; 6],
     counts: &mut [usize; 4],
+    stored_time: &mut u32,
 ) -> u8
-    ensures { λ r. ⌜ OpensInto kind (read last (openRule kind) (now (s .entry))) r (lentRun header corrections «text_starts» «text_lengths» numbers counts) ⌝ }
+    ensures { λ r. ⌜ OpensInto kind (read last (openRule kind) (now (s .entry))) r (lentRun header corrections «text_starts» «text_lengths» numbers counts «stored_time») ⌝ }
 {
     let o = opening::open_run(kind, s, last);
     let d = o.metadata;
@@ -102,6 +103,7 @@ pub extern "C" fn chemstation_open(
             *text_lengths = lengths;
             *numbers = states::numbers_of(st);
             *counts = states::counts_of(st);
+            *stored_time = states::stored_of(st);
             GIVEN
         }
     }
@@ -136,28 +138,43 @@ pub extern "C" fn chemstation_text(
 pub extern "C" fn chemstation_fill(
     numbers: &mut [f64; 6],
     counts: &mut [usize; 4],
+    stored_time: &mut u32,
     s: &[u8],
     last: bool,
     time: &mut [f64],
     axis: &mut [f64],
     unscaled: &mut [f64],
     scaled: &mut [f64],
+    minutes: &mut [u32],
+    leftover: &mut [u32],
     given: &mut [usize; 2],
 ) -> u8
-    ensures { λ r. ⌜ FillsInto (now (s .entry)) last r (lentFilling numbers counts (lentColumns time axis unscaled scaled) given) ⌝ }
+    ensures { λ r. ⌜ FillsInto (now (s .entry)) last r (lentFilling numbers counts «stored_time» (lentColumns time axis unscaled scaled minutes leftover) given) ⌝ }
 {
     let x = *numbers;
     let n = *counts;
-    match states::state_of(x, n) {
+    let stored = *stored_time;
+    match states::state_of(x, n, stored) {
         Kept::NoKind => {
             *given = [0, 0];
             error::number_of(Refusal::UnknownKind)
         }
         Kept::State(st) => {
-            let f = reader::fill_columns(st, s, last, time, axis, unscaled, scaled);
+            let f = reader::fill_columns(
+                st,
+                s,
+                last,
+                time,
+                axis,
+                unscaled,
+                scaled,
+                minutes,
+                leftover,
+            );
             let after = f.state;
             *numbers = states::numbers_of(after);
             *counts = states::counts_of(after);
+            *stored_time = states::stored_of(after);
             *given = [f.count, f.consumed];
             let closing = f.closing;
             closing_number(closing)

@@ -9,7 +9,7 @@ use Rattle.common.specs.Bytes.{le}
 use Rattle.common.specs.Fields.{u16, u32}
 use Rattle.floats.specs.Doubles.{double, minutes}
 use Rattle.streams.specs.Changes.{Change, clears}
-use Rattle.streams.specs.Told.{Made, Told, told, delta, changeOf}
+use Rattle.streams.specs.Told.{Made, Told, told, wholeMinutes, leftover, delta, changeOf}
 use Rattle.streams.specs.Scanning.{Scanning, scanning}
 use Rattle.streams.specs.declared.ChemstationDadState.{ChemstationDadState}
 use Rattle.streams.specs.declared.Bytes.{Bytes}
@@ -27,7 +27,7 @@ widthOf (Absolute z) = 6
 -- 'Time / 60000, wavelength / 20, scaled value / 2000': a state that stands at a point, and its delta
 abbrev pub dadMade : ChemstationDadState → Delta → Made
 dadMade st d = record {
-  shows = λ y. Spectrum (minutes (st .«cur_time»)) (div binary64 (st .«cur_wv») (double 20)) y (div binary64 y (double 2000));
+  shows = λ y. Spectrum (minutes (st .«cur_time»)) (div binary64 (st .«cur_wv») (double 20)) y (div binary64 y (double 2000)) (wholeMinutes (st .«stored_time»)) (leftover (st .«stored_time»));
   then = λ s. Dad (record {
     «n_scans_left» = st .«n_scans_left»;
     «n_bytes_left» = record { 0 = st .«n_bytes_left» .0 - widthOf d };
@@ -35,6 +35,7 @@ dadMade st d = record {
     «cur_intensity» = s .value;
     «cur_wv» = st .«cur_wv»;
     «wv_step» = st .«wv_step»;
+    «stored_time» = st .«stored_time»;
   });
 }
 
@@ -50,6 +51,7 @@ dadBegun scans bytes time start step = record {
   «cur_intensity» = double 0;
   «cur_wv» = double start;
   «wv_step» = double step;
+  «stored_time» = time;
 }
 
 -- 'u16 type, not 67 is finished; u16 length minus 22, not below 0, is bytes due; u32 time; u16 start, end, step; 8 bytes; none due is finished; value 0'
@@ -76,6 +78,7 @@ dadOnward st = record {
   «cur_intensity» = st .«cur_intensity»;
   «cur_wv» = add binary64 (st .«cur_wv») (st .«wv_step»);
   «wv_step» = st .«wv_step»;
+  «stored_time» = st .«stored_time»;
 }
 
 -- 'No scans due: finished. With no bytes due: ..'

@@ -59,6 +59,8 @@ fn dad_given(st: ChemstationDadState, d: Delta, n: usize) -> Next
         wavelength: st.cur_wv / 20.0,
         unscaled: value,
         scaled: value / 2000.0,
+        minutes: st.stored_time / 60000,
+        leftover: st.stored_time % 60000,
     };
     let n_scans_left = st.n_scans_left;
     let state = ChemstationDadState {
@@ -68,6 +70,7 @@ fn dad_given(st: ChemstationDadState, d: Delta, n: usize) -> Next
         cur_intensity: value,
         cur_wv: st.cur_wv,
         wv_step: st.wv_step,
+        stored_time: st.stored_time,
     };
     Next::Given(record, State::Dad(state), n)
 }
@@ -101,13 +104,15 @@ fn dad_scan(st: ChemstationDadState, s: &[u8], last: bool) -> Next
     if bytes == 0 {
         return Next::Stopped(Stopped::Finished);
     }
+    let stored_time = le_u32(s, 4);
     let state = ChemstationDadState {
         n_scans_left: Scans(st.n_scans_left.0 - 1),
         n_bytes_left: Bytes(bytes),
-        cur_time: f64_from_u32(le_u32(s, 4)),
+        cur_time: f64_from_u32(stored_time),
         cur_intensity: 0.0,
         cur_wv: f64_from_u16(le_u16(s, 8)),
         wv_step: f64_from_u16(le_u16(s, 12)),
+        stored_time,
     };
     dad_point(state, s, HEAD, last)
 }
@@ -131,6 +136,7 @@ pub fn dad_next(st: ChemstationDadState, s: &[u8], last: bool) -> Next
         cur_intensity: st.cur_intensity,
         cur_wv: st.cur_wv + st.wv_step,
         wv_step: st.wv_step,
+        stored_time: st.stored_time,
     };
     dad_point(state, s, 0, last)
 }

@@ -32,8 +32,8 @@ pointLine t x u s = timeText t ++ (doubleText x 32 ++ valuesText u s)
 
 unfoldable pub recordLine : Record → List ℕ
 recordLine (Trace t u s) = timeText t ++ (field (45 ∷ []) 32 ++ valuesText u s)
-recordLine (Mass t m u s) = pointLine t m u s
-recordLine (Spectrum t w u s) = pointLine t w u s
+recordLine (Mass t m u s min left) = pointLine t m u s
+recordLine (Spectrum t w u s min left) = pointLine t w u s
 
 -- 'h: edition, size, decimal'
 abbrev pub headerLine : ℕ → ℕ → List ℕ

@@ -93,12 +93,14 @@ pub fn put_record(out: &mut [u8], at: usize, r: Record) -> usize
             mz,
             unscaled,
             scaled,
+            ..
         } => put_point(out, at, time, mz, unscaled, scaled),
         Record::Spectrum {
             time,
             wavelength,
             unscaled,
             scaled,
+            ..
         } => put_point(out, at, time, wavelength, unscaled, scaled),
     }
 }

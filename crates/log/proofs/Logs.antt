@@ -41,8 +41,8 @@ lines-append (r ∷ rs) ss = ap (λ t. recordLine r ++ t) (lines-append rs ss) �
 pub line-some : (r : Record) → 1 ≤ length (recordLine r)
 unfolding recordLine
 line-some (Trace t u s) = omega arith
-line-some (Mass t m u s) = omega arith
-line-some (Spectrum t w u s) = omega arith
+line-some (Mass t m u s min left) = omega arith
+line-some (Spectrum t w u s min left) = omega arith
 
 full≢stopped : {z : Stop} → ¬ (full ≡ stopped z)
 full≢stopped e = false≢true cc

@@ -47,28 +47,47 @@ fn ms_intensity(raw: u16) -> f64
 }
 
 // The record of a point, and the state after it.
-fn ms_given(scans: Scans, points: Points, time: f64, mz: u16, value: f64, n: usize) -> Next
-    ensures { λ r. ⌜ answerOf r ≡ got (itemOf (msMade scans points time mz) (flat doubles value)) n ⌝ }
+fn ms_given(
+    scans: Scans,
+    points: Points,
+    time: f64,
+    stored: u32,
+    mz: u16,
+    value: f64,
+    n: usize,
+) -> Next
+    ensures { λ r. ⌜ answerOf r ≡ got (itemOf (msMade scans points time stored mz) (flat doubles value)) n ⌝ }
 {
     let record = Record::Mass {
         time,
         mz: f64_from_u16(mz) / 20.0,
         unscaled: value,
         scaled: value,
+        minutes: stored / 60000,
+        leftover: stored % 60000,
     };
     let state = ChemstationMsState {
         n_scans_left: scans,
         n_mzs_left: points,
         cur_time: time,
         cur_intensity: value,
+        stored_time: stored,
     };
     Next::Given(record, State::Ms(state), n)
 }
 
 // A point, and the footer if it is its scan's last. The value before it makes no difference.
-fn ms_point(scans: Scans, points: Points, time: f64, s: &[u8], at: usize, last: bool) -> Next
+fn ms_point(
+    scans: Scans,
+    points: Points,
+    time: f64,
+    stored: u32,
+    s: &[u8],
+    at: usize,
+    last: bool,
+) -> Next
     requires { ⌜ (at ≤ length (now s)) × (0 < scans .0) × (0 < points .0) ⌝ }
-    ensures { λ r. ⌜ ((v : Sum Float) → answerOf r ≡ mapRead (stepped v) (readAt last (msPoint scans points time) at (now (s .entry)))) ⌝ }
+    ensures { λ r. ⌜ ((v : Sum Float) → answerOf r ≡ mapRead (stepped v) (readAt last (msPoint scans points time stored) at (now (s .entry)))) ⌝ }
 {
     if s.len() - at < POINT {
         return Next::Stopped(cut(last));
@@ -76,7 +95,15 @@ fn ms_point(scans: Scans, points: Points, time: f64, s: &[u8], at: usize, last: 
     let mz = be_u16(s, at);
     let value = ms_intensity(be_u16(s, at + 2));
     if points.0 != 1 {
-        return ms_given(scans, Points(points.0 - 1), time, mz, value, at + POINT);
+        return ms_given(
+            scans,
+            Points(points.0 - 1),
+            time,
+            stored,
+            mz,
+            value,
+            at + POINT,
+        );
     }
     if s.len() - at < LAST_POINT {
         return Next::Stopped(cut(last));
@@ -85,6 +112,7 @@ fn ms_point(scans: Scans, points: Points, time: f64, s: &[u8], at: usize, last: 
         Scans(scans.0 - 1),
         Points(0),
         time,
+        stored,
         mz,
         value,
         at + LAST_POINT,
@@ -99,8 +127,9 @@ fn ms_scan(scans: Scans, points: Points, s: &[u8], at: usize, last: bool) -> Nex
     if s.len() - at < HEAD {
         return Next::Stopped(cut(last));
     }
-    let time = minutes_of(f64_from_u32(be_u32(s, at + COUNT)));
-    ms_point(scans, points, time, s, at + HEAD, last)
+    let stored = be_u32(s, at + COUNT);
+    let time = minutes_of(f64_from_u32(stored));
+    ms_point(scans, points, time, stored, s, at + HEAD, last)
 }
 
 // The first point of the next scan that has any: the empty ones are passed over.
@@ -142,5 +171,5 @@ pub fn ms_next(st: ChemstationMsState, s: &[u8], last: bool) -> Next
     if points.0 == 0 {
         return ms_scans(scans, s, last);
     }
-    ms_point(scans, points, st.cur_time, s, 0, last)
+    ms_point(scans, points, st.cur_time, st.stored_time, s, 0, last)
 }

@@ -50,7 +50,7 @@ fidBegins d = Fid (record {
 })
 
 abbrev pub msBegins : Scans → State
-msBegins scans = Ms (record { «n_scans_left» = scans; «n_mzs_left» = record { 0 = 0 }; «cur_time» = double 0; «cur_intensity» = double 0 })
+msBegins scans = Ms (record { «n_scans_left» = scans; «n_mzs_left» = record { 0 = 0 }; «cur_time» = double 0; «cur_intensity» = double 0; «stored_time» = 0 })
 
 -- MWD: 'Time as FID'
 abbrev pub mwdBegins : ChemstationMetadata → State
@@ -71,6 +71,7 @@ dadBegins scans = Dad (record {
   «cur_intensity» = double 0;
   «cur_wv» = double 0;
   «wv_step» = double 0;
+  «stored_time» = 0;
 })
 
 abbrev pub uvBegins : Scans → Float → State
@@ -82,6 +83,7 @@ uvBegins scans mult = Uv (record {
   «cur_wv» = double 0;
   «wv_step» = double 0;
   «mult_correction» = mult;
+  «stored_time» = 0;
 })
 
 -- array: 'Time begins at start'

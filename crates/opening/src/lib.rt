@@ -89,6 +89,7 @@ fn ms_state(scans: Scans) -> State
         n_mzs_left: Points(0),
         cur_time: 0.0,
         cur_intensity: 0.0,
+        stored_time: 0,
     };
     State::Ms(st)
 }
@@ -118,6 +119,7 @@ fn dad_state(scans: Scans) -> State
         cur_intensity: 0.0,
         cur_wv: 0.0,
         wv_step: 0.0,
+        stored_time: 0,
     };
     State::Dad(st)
 }
@@ -133,6 +135,7 @@ fn uv_state(scans: Scans, mult: f64) -> State
         cur_wv: 0.0,
         wv_step: 0.0,
         mult_correction: mult,
+        stored_time: 0,
     };
     State::Uv(st)
 }

@@ -6,7 +6,6 @@ use Prim.Native.Nat.{ℕ, _+_, _-_, _≤_, _<_}
 use native.Mathlib.Nat.{sub-zero, le-of-suc-le-suc}
 use native.Mathlib.Omega.{arith}
 use lib.Dec.{T, eqb, eqb→eq}
-use lib.Ieee.{Float}
 use lib.ListN.{length, drop, set, length-append, length-map, length-drop}
 use mir.Facts.{and-yes}
 use Rattle.rules.specs.Rule.{Stop, got, stops, read}
@@ -21,24 +20,37 @@ use Rattle.reader.specs.declared.Row.{Row}
 use Rattle.reader.specs.declared.Closing.{Closing}
 use Rattle.reader.specs.declared.Filled.{Filled as Answer}
 
--- ---- a column
+-- ---- a column, of any element type
 
-length-filled : (f : Row → Float) (rows : List Record) (old : List Float) → length rows ≤ length old → length (filledWith f rows old) ≡ length old
+length-filled : {A : Type 0} (f : Row → A) (rows : List Record) (old : List A) → length rows ≤ length old → length (filledWith f rows old) ≡ length old
 length-filled f rows old h = length-append (map (λ r. f (rowOf r)) rows) (drop (length rows) old) ∙ rw (length-map, length-drop) (omega arith)
 
-filled-set : (f : Row → Float) (rows : List Record) (r : Record) (old : List Float) → length rows < length old → set (filledWith f rows old) (length rows) (f (rowOf r)) ≡ filledWith f (rows ++ (r ∷ [])) old
+filled-set : {A : Type 0} (f : Row → A) (rows : List Record) (r : Record) (old : List A) → length rows < length old → set (filledWith f rows old) (length rows) (f (rowOf r)) ≡ filledWith f (rows ++ (r ∷ [])) old
 filled-set f rows r [] h = absurd (omega arith)
 filled-set f [] r (y ∷ ys) h = refl
 filled-set f (x ∷ xs) r (y ∷ ys) h = ap (λ l. f (rowOf x) ∷ l) (filled-set f xs r ys (le-of-suc-le-suc h))
 
--- ---- four columns of one length
+-- ---- columns of one length
+
+abbrev isLong : {A : Type 0} → ℕ → List A → Bool
+isLong n l = eqb (length l) n
 
 pub even-if : (c : Columns) → equalLengths c ≡ true → Even (length (c .time)) c
 even-if c e =
     let n = length (c .time) in
-    let p = and-yes (eqb (length (c .axis)) n) (eqb (length (c .unscaled)) n && eqb (length (c .scaled)) n) (subst T (sym e) tt) in
-    let q = and-yes (eqb (length (c .unscaled)) n) (eqb (length (c .scaled)) n) (p .1) in
-    record { time = refl; axis = eqb→eq (length (c .axis)) n (p .0); unscaled = eqb→eq (length (c .unscaled)) n (q .0); scaled = eqb→eq (length (c .scaled)) n (q .1) }
+    let last = isLong n (c .minutes) && isLong n (c .leftover) in
+    let p = and-yes (isLong n (c .axis)) (isLong n (c .unscaled) && (isLong n (c .scaled) && last)) (subst T (sym e) tt) in
+    let q = and-yes (isLong n (c .unscaled)) (isLong n (c .scaled) && last) (p .1) in
+    let r = and-yes (isLong n (c .scaled)) last (q .1) in
+    let s = and-yes (isLong n (c .minutes)) (isLong n (c .leftover)) (r .1) in
+    record {
+      time = refl;
+      axis = eqb→eq (length (c .axis)) n (p .0);
+      unscaled = eqb→eq (length (c .unscaled)) n (q .0);
+      scaled = eqb→eq (length (c .scaled)) n (r .0);
+      minutes = eqb→eq (length (c .minutes)) n (s .0);
+      leftover = eqb→eq (length (c .leftover)) n (s .1);
+    }
 
 pub even-filled : (n : ℕ) (rows : List Record) (old : Columns) → length rows ≤ n → Even n old → Even n (columnsWith rows old)
 even-filled n rows old h e = record {
@@ -46,11 +58,15 @@ even-filled n rows old h e = record {
   axis = length-filled (λ r. r .axis) rows (old .axis) (omega (arith, e .axis)) ∙ e .axis;
   unscaled = length-filled (λ r. r .unscaled) rows (old .unscaled) (omega (arith, e .unscaled)) ∙ e .unscaled;
   scaled = length-filled (λ r. r .scaled) rows (old .scaled) (omega (arith, e .scaled)) ∙ e .scaled;
+  minutes = length-filled (λ r. r .minutes) rows (old .minutes) (omega (arith, e .minutes)) ∙ e .minutes;
+  leftover = length-filled (λ r. r .leftover) rows (old .leftover) (omega (arith, e .leftover)) ∙ e .leftover;
 }
 
--- a row put at a place of all four
+-- a row put at a place of all six
 abbrev pub putRow : Columns → ℕ → Row → Columns
-putRow c i r = columns (set (c .time) i (r .time)) (set (c .axis) i (r .axis)) (set (c .unscaled) i (r .unscaled)) (set (c .scaled) i (r .scaled))
+putRow c i r =
+    columns (set (c .time) i (r .time)) (set (c .axis) i (r .axis)) (set (c .unscaled) i (r .unscaled)) (set (c .scaled) i (r .scaled))
+    (set (c .minutes) i (r .minutes)) (set (c .leftover) i (r .leftover))
 
 pub put-next : (n : ℕ) (rows : List Record) (r : Record) (old : Columns) → length rows < n → Even n old → putRow (columnsWith rows old) (length rows) (rowOf r) ≡ columnsWith (rows ++ (r ∷ [])) old
 put-next n rows r old h e = λ j. record {
@@ -58,6 +74,8 @@ put-next n rows r old h e = λ j. record {
   axis = filled-set (λ r. r .axis) rows r (old .axis) (omega (arith, e .axis)) j;
   unscaled = filled-set (λ r. r .unscaled) rows r (old .unscaled) (omega (arith, e .unscaled)) j;
   scaled = filled-set (λ r. r .scaled) rows r (old .scaled) (omega (arith, e .scaled)) j;
+  minutes = filled-set (λ r. r .minutes) rows r (old .minutes) (omega (arith, e .minutes)) j;
+  leftover = filled-set (λ r. r .leftover) rows r (old .leftover) (omega (arith, e .leftover)) j;
 }
 
 -- ---- the loop

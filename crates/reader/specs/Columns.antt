@@ -1,4 +1,4 @@
--- Fill columns (document 01): four lent columns of doubles, and what they hold afterwards.
+-- Fill columns (document 01, and the two columns of a stored time): the lent columns, and what they hold afterwards.
 use mathlib.Core.Path.{_≡_}
 use mathlib.Core.Bool.{Bool, cond, _&&_}
 use mathlib.Core.List.{List, _++_, map}
@@ -20,38 +20,40 @@ use Rattle.reader.specs.declared.Closing.{Closing}
 use Rattle.reader.specs.declared.Closing.the-variants.{Full, Stopped}
 use Rattle.reader.specs.declared.Filled.{Filled}
 
--- 'Kinds without an axis store 0.0'
+-- 'Kinds without an axis store 0.0'; 'kinds without a stored time write 0 in both'
 abbrev pub rowOf : Record → Row
-rowOf (Trace t u s) = record { time = t; axis = ofBits binary64 0; unscaled = u; scaled = s }
-rowOf (Mass t m u s) = record { time = t; axis = m; unscaled = u; scaled = s }
-rowOf (Spectrum t w u s) = record { time = t; axis = w; unscaled = u; scaled = s }
+rowOf (Trace t u s) = record { time = t; axis = ofBits binary64 0; unscaled = u; scaled = s; minutes = 0; leftover = 0 }
+rowOf (Mass t m u s min left) = record { time = t; axis = m; unscaled = u; scaled = s; minutes = min; leftover = left }
+rowOf (Spectrum t w u s min left) = record { time = t; axis = w; unscaled = u; scaled = s; minutes = min; leftover = left }
 
--- 'four lent columns of doubles (time, axis, unscaled, scaled)'
+-- 'four lent columns of doubles (time, axis, unscaled, scaled)', and 'two more u32 columns'
 pub record Columns : Type 0 where
   pub time : List Float
   pub axis : List Float
   pub unscaled : List Float
   pub scaled : List Float
+  pub minutes : List ℕ
+  pub leftover : List ℕ
 
-abbrev pub columns : List Float → List Float → List Float → List Float → Columns
-columns t a u s = record { time = t; axis = a; unscaled = u; scaled = s }
+abbrev pub columns : List Float → List Float → List Float → List Float → List ℕ → List ℕ → Columns
+columns t a u s m l = record { time = t; axis = a; unscaled = u; scaled = s; minutes = m; leftover = l }
 
 -- a contract sees lent memory twice: as it was lent (`.entry`) and as it is given back (`.exit`)
 abbrev pub Lent : Type 0 → Type 0
 Lent A = Both (RefT A) (RefT A)
 
--- the four columns before and after, as one
-abbrev pub lentColumns : Lent (List Float) → Lent (List Float) → Lent (List Float) → Lent (List Float) → Both Columns Columns
-lentColumns t a u s = record {
-  entry = columns (now (t .entry)) (now (a .entry)) (now (u .entry)) (now (s .entry));
-  exit = columns (now (t .exit)) (now (a .exit)) (now (u .exit)) (now (s .exit));
+-- the six columns before and after, as one
+abbrev pub lentColumns : Lent (List Float) → Lent (List Float) → Lent (List Float) → Lent (List Float) → Lent (List ℕ) → Lent (List ℕ) → Both Columns Columns
+lentColumns t a u s m l = record {
+  entry = columns (now (t .entry)) (now (a .entry)) (now (u .entry)) (now (s .entry)) (now (m .entry)) (now (l .entry));
+  exit = columns (now (t .exit)) (now (a .exit)) (now (u .exit)) (now (s .exit)) (now (m .exit)) (now (l .exit));
 }
 
-abbrev pub allEqual : ℕ → ℕ → ℕ → ℕ → Bool
-allEqual t a u s = eqb a t && (eqb u t && eqb s t)
+abbrev pub allEqual : ℕ → ℕ → ℕ → ℕ → ℕ → ℕ → Bool
+allEqual t a u s m l = eqb a t && (eqb u t && (eqb s t && (eqb m t && eqb l t)))
 
 abbrev pub equalLengths : Columns → Bool
-equalLengths c = allEqual (length (c .time)) (length (c .axis)) (length (c .unscaled)) (length (c .scaled))
+equalLengths c = allEqual (length (c .time)) (length (c .axis)) (length (c .unscaled)) (length (c .scaled)) (length (c .minutes)) (length (c .leftover))
 
 -- columns of one length, n
 pub record Even (n : ℕ) (c : Columns) : Type 0 where
@@ -59,9 +61,11 @@ pub record Even (n : ℕ) (c : Columns) : Type 0 where
   pub axis : length (c .axis) ≡ n
   pub unscaled : length (c .unscaled) ≡ n
   pub scaled : length (c .scaled) ≡ n
+  pub minutes : length (c .minutes) ≡ n
+  pub leftover : length (c .leftover) ≡ n
 
--- a column: a place for each record, and 'places from the count on keep what they held'
-abbrev pub filledWith : (Row → Float) → List Record → List Float → List Float
+-- a column of any element type: a place for each record, and 'places from the count on keep what they held'
+abbrev pub filledWith : {A : Type 0} → (Row → A) → List Record → List A → List A
 filledWith f rs old = map (λ r. f (rowOf r)) rs ++ drop (length rs) old
 
 abbrev pub columnsWith : List Record → Columns → Columns
@@ -70,6 +74,8 @@ columnsWith rs old = record {
   axis = filledWith (λ r. r .axis) rs (old .axis);
   unscaled = filledWith (λ r. r .unscaled) rs (old .unscaled);
   scaled = filledWith (λ r. r .scaled) rs (old .scaled);
+  minutes = filledWith (λ r. r .minutes) rs (old .minutes);
+  leftover = filledWith (λ r. r .leftover) rs (old .leftover);
 }
 
 -- '15: lengths differ'; otherwise records until the columns are full

@@ -12,12 +12,14 @@ ghost use Rattle.rules.specs.Calls.{stopped, nothing};
 ghost use Rattle.reader.specs.Columns.{rowOf, Columns, columns, lentColumns, allEqual, equalLengths, FilledBy, Fills};
 ghost use Rattle.reader.specs.Last.{LastDiffers};
 
-// A record as a row of four columns; a kind without an axis has 0.0 there.
+// A record as a row of six columns; a kind without an axis has 0.0 there, one without a stored time 0 in the last two.
 pub struct Row {
     pub time: f64,
     pub axis: f64,
     pub unscaled: f64,
     pub scaled: f64,
+    pub minutes: u32,
+    pub leftover: u32,
 }
 
 // The row of a record.
@@ -34,28 +36,38 @@ pub fn row_of(r: Record) -> Row
             axis: 0.0,
             unscaled,
             scaled,
+            minutes: 0,
+            leftover: 0,
         },
         Record::Mass {
             time,
             mz,
             unscaled,
             scaled,
+            minutes,
+            leftover,
         } => Row {
             time,
             axis: mz,
             unscaled,
             scaled,
+            minutes,
+            leftover,
         },
         Record::Spectrum {
             time,
             wavelength,
             unscaled,
             scaled,
+            minutes,
+            leftover,
         } => Row {
             time,
             axis: wavelength,
             unscaled,
             scaled,
+            minutes,
+            leftover,
         },
     }
 }
@@ -86,9 +98,16 @@ fn unequal(st: State) -> Filled
     }
 }
 
-// Whether four lengths are one.
-pub fn all_equal(time: usize, axis: usize, unscaled: usize, scaled: usize) -> bool
-    ensures { λ r. ⌜ r ≡ allEqual time axis unscaled scaled ⌝ }
+// Whether six lengths are one.
+pub fn all_equal(
+    time: usize,
+    axis: usize,
+    unscaled: usize,
+    scaled: usize,
+    minutes: usize,
+    leftover: usize,
+) -> bool
+    ensures { λ r. ⌜ r ≡ allEqual time axis unscaled scaled minutes leftover ⌝ }
 {
     if axis != time {
         return false;
@@ -96,7 +115,13 @@ pub fn all_equal(time: usize, axis: usize, unscaled: usize, scaled: usize) -> bo
     if unscaled != time {
         return false;
     }
-    scaled == time
+    if scaled != time {
+        return false;
+    }
+    if minutes != time {
+        return false;
+    }
+    leftover == time
 }
 
 // Fills columns of one length.
@@ -108,9 +133,11 @@ fn fill_equal(
     axis: &mut [f64],
     unscaled: &mut [f64],
     scaled: &mut [f64],
+    minutes: &mut [u32],
+    leftover: &mut [u32],
 ) -> Filled
-    requires { ⌜ equalLengths (columns (now time) (now axis) (now unscaled) (now scaled)) ≡ true ⌝ }
-    ensures { λ r. ⌜ Fills st (now (s .entry)) last r (lentColumns time axis unscaled scaled) ⌝ }
+    requires { ⌜ equalLengths (columns (now time) (now axis) (now unscaled) (now scaled) (now minutes) (now leftover)) ≡ true ⌝ }
+    ensures { λ r. ⌜ Fills st (now (s .entry)) last r (lentColumns time axis unscaled scaled minutes leftover) ⌝ }
 {
     let mut cur = st;
     let mut at: usize = 0;
@@ -131,6 +158,8 @@ fn fill_equal(
                 axis[i] = row.axis;
                 unscaled[i] = row.unscaled;
                 scaled[i] = row.scaled;
+                minutes[i] = row.minutes;
+                leftover[i] = row.leftover;
                 cur = after;
                 at += k;
                 i += 1;
@@ -154,13 +183,22 @@ pub fn fill_columns(
     axis: &mut [f64],
     unscaled: &mut [f64],
     scaled: &mut [f64],
+    minutes: &mut [u32],
+    leftover: &mut [u32],
 ) -> Filled
-    ensures { λ r. ⌜ Fills st (now (s .entry)) last r (lentColumns time axis unscaled scaled) ⌝ }
+    ensures { λ r. ⌜ Fills st (now (s .entry)) last r (lentColumns time axis unscaled scaled minutes leftover) ⌝ }
 {
-    if !all_equal(time.len(), axis.len(), unscaled.len(), scaled.len()) {
+    if !all_equal(
+        time.len(),
+        axis.len(),
+        unscaled.len(),
+        scaled.len(),
+        minutes.len(),
+        leftover.len(),
+    ) {
         return unequal(st);
     }
-    fill_equal(st, s, last, time, axis, unscaled, scaled)
+    fill_equal(st, s, last, time, axis, unscaled, scaled, minutes, leftover)
 }
 
 // Nothing is computed: told that the bytes are the last or not, Open, Next record and Fill columns differ only where a due

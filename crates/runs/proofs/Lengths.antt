@@ -54,8 +54,8 @@ point-long t x u s =
 pub record-long : (r : Record) → length (recordLine r) ≤ 70
 unfolding recordLine
 record-long (Trace t u s) = omega (arith, length-append (doubleText t 32) (45 ∷ 32 ∷ valuesText u s), double-long t 32, values-long u s)
-record-long (Mass t m u s) = point-long t m u s
-record-long (Spectrum t w u s) = point-long t w u s
+record-long (Mass t m u s min left) = point-long t m u s
+record-long (Spectrum t w u s min left) = point-long t w u s
 
 pub header-long : (h : Header) → length (headerText h) ≤ 44
 header-long h = omega (arith, length-append (number (h .says .edition) 32) (number (h .says .size) 10), number-long (h .says .edition) 32, number-long (h .says .size) 10)

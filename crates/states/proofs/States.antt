@@ -24,5 +24,5 @@ keeps-states (Uv u) = refl
 keeps-states (Array a) = rw (same-type (a .«record_type»))
 
 -- a kind that is not 1 to 6
-pub no-kind : (k : ℕ) (x : List Float) (n : List ℕ) → ¬ (k ≡ 1) → ¬ (k ≡ 2) → ¬ (k ≡ 3) → ¬ (k ≡ 4) → ¬ (k ≡ 5) → ¬ (k ≡ 6) → kept.NoKind ≡ keptAs k x n
-no-kind k x n a b c d e f = rw (ne-eqb k 1 a, ne-eqb k 2 b, ne-eqb k 3 c, ne-eqb k 4 d, ne-eqb k 5 e, ne-eqb k 6 f)
+pub no-kind : (k : ℕ) (x : List Float) (n : List ℕ) (stored : ℕ) → ¬ (k ≡ 1) → ¬ (k ≡ 2) → ¬ (k ≡ 3) → ¬ (k ≡ 4) → ¬ (k ≡ 5) → ¬ (k ≡ 6) → kept.NoKind ≡ keptAs k x n stored
+no-kind k x n stored a b c d e f = rw (ne-eqb k 1 a, ne-eqb k 2 b, ne-eqb k 3 c, ne-eqb k 4 d, ne-eqb k 5 e, ne-eqb k 6 f)

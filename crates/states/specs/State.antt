@@ -1,4 +1,4 @@
--- A state as numbers that the caller keeps: six doubles and four counts.
+-- A state as numbers that the caller keeps: six doubles, four counts and a stored time.
 use mathlib.Core.Path.{_≡_}
 use mathlib.Core.Bool.{cond}
 use mathlib.Core.List.{List, [], _∷_}
@@ -6,6 +6,7 @@ use Prim.Native.Nat.{ℕ}
 use lib.Dec.{eqb}
 use lib.ListN.{getD}
 use lib.Ieee.{Float, binary64, ofBits, nan}
+use Rattle.streams.specs.Next.{storedOf}
 use Rattle.streams.specs.declared.ChemstationArrayRecordType.{ChemstationArrayRecordType}
 use Rattle.streams.specs.declared.ChemstationArrayRecordType.the-variants.{Float32Array, Float64Array}
 use Rattle.streams.specs.declared.State.{State}
@@ -61,12 +62,13 @@ fidFrom x = Fid (record {
   «offset_correction» = numberAt x 5;
 })
 
-abbrev pub msFrom : List Float → List ℕ → State
-msFrom x n = Ms (record {
+abbrev pub msFrom : List Float → List ℕ → ℕ → State
+msFrom x n stored = Ms (record {
   «n_scans_left» = record { 0 = countAt n 1 };
   «n_mzs_left» = record { 0 = countAt n 2 };
   «cur_time» = numberAt x 0;
   «cur_intensity» = numberAt x 1;
+  «stored_time» = stored;
 })
 
 abbrev pub mwdFrom : List Float → List ℕ → State
@@ -79,18 +81,19 @@ mwdFrom x n = Mwd (record {
   «offset_correction» = numberAt x 5;
 })
 
-abbrev pub dadFrom : List Float → List ℕ → State
-dadFrom x n = Dad (record {
+abbrev pub dadFrom : List Float → List ℕ → ℕ → State
+dadFrom x n stored = Dad (record {
   «n_scans_left» = record { 0 = countAt n 1 };
   «n_bytes_left» = record { 0 = countAt n 2 };
   «cur_time» = numberAt x 0;
   «cur_intensity» = numberAt x 1;
   «cur_wv» = numberAt x 2;
   «wv_step» = numberAt x 3;
+  «stored_time» = stored;
 })
 
-abbrev pub uvFrom : List Float → List ℕ → State
-uvFrom x n = Uv (record {
+abbrev pub uvFrom : List Float → List ℕ → ℕ → State
+uvFrom x n stored = Uv (record {
   «n_scans_left» = record { 0 = countAt n 1 };
   «n_wvs_left» = record { 0 = countAt n 2 };
   «cur_time» = numberAt x 0;
@@ -98,6 +101,7 @@ uvFrom x n = Uv (record {
   «cur_wv» = numberAt x 2;
   «wv_step» = numberAt x 3;
   «mult_correction» = numberAt x 4;
+  «stored_time» = stored;
 })
 
 abbrev pub arrayFrom : List Float → List ℕ → State
@@ -110,20 +114,20 @@ arrayFrom x n = Array (record {
   «mult_correction» = numberAt x 4;
 })
 
-abbrev pub keptAs : ℕ → List Float → List ℕ → Kept
-keptAs kind x n =
+abbrev pub keptAs : ℕ → List Float → List ℕ → ℕ → Kept
+keptAs kind x n stored =
     cond (eqb kind 1) (kept.State (fidFrom x))
-    (cond (eqb kind 2) (kept.State (msFrom x n))
+    (cond (eqb kind 2) (kept.State (msFrom x n stored))
     (cond (eqb kind 3) (kept.State (mwdFrom x n))
-    (cond (eqb kind 4) (kept.State (dadFrom x n))
-    (cond (eqb kind 5) (kept.State (uvFrom x n))
+    (cond (eqb kind 4) (kept.State (dadFrom x n stored))
+    (cond (eqb kind 5) (kept.State (uvFrom x n stored))
     (cond (eqb kind 6) (kept.State (arrayFrom x n))
     kept.NoKind)))))
 
 -- the state that the numbers hold: unused for a kind that is not 1 to 6
-unfoldable pub stateOf : List Float → List ℕ → Kept
-stateOf x n = keptAs (countAt n 0) x n
+unfoldable pub stateOf : List Float → List ℕ → ℕ → Kept
+stateOf x n stored = keptAs (countAt n 0) x n stored
 
 -- a state that is stored and taken back is the same
 abbrev pub KeepsStates : Type 0
-KeepsStates = (st : State) → stateOf (numbersOf st) (countsOf st) ≡ kept.State st
+KeepsStates = (st : State) → stateOf (numbersOf st) (countsOf st) (storedOf st) ≡ kept.State st

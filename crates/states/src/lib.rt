@@ -1,4 +1,4 @@
-// A state as numbers that a caller keeps, six doubles and four counts, and the numbers as a state.
+// A state as numbers that a caller keeps, six doubles, four counts and a stored time, and the numbers as a state.
 use streams::Bytes;
 use streams::ChemstationArrayRecordType;
 use streams::ChemstationArrayState;
@@ -11,6 +11,7 @@ use streams::Points;
 use streams::Scans;
 use streams::State;
 ghost use mathlib.Core.Path.{_≡_};
+ghost use Rattle.streams.specs.Next.{storedOf};
 ghost use Rattle.states.specs.State.{numbersOf, typeNumber, countsOf, typeAt, fidFrom, msFrom, mwdFrom, dadFrom, uvFrom, arrayFrom, stateOf, KeepsStates};
 
 // What the numbers hold.
@@ -103,6 +104,20 @@ pub fn counts_of(st: State) -> [usize; 4]
     }
 }
 
+// The time as stored, in milliseconds; 0 where the kind has none.
+pub fn stored_of(st: State) -> u32
+    ensures { λ r. ⌜ r ≡ storedOf st ⌝ }
+{
+    match st {
+        State::Fid(_) => 0,
+        State::Ms(m) => m.stored_time,
+        State::Mwd(_) => 0,
+        State::Dad(d) => d.stored_time,
+        State::Uv(u) => u.stored_time,
+        State::Array(_) => 0,
+    }
+}
+
 // ---- the numbers as a state
 
 fn fid_from(x: [f64; 6]) -> State
@@ -119,14 +134,15 @@ fn fid_from(x: [f64; 6]) -> State
     State::Fid(st)
 }
 
-fn ms_from(x: [f64; 6], n: [usize; 4]) -> State
-    ensures { λ r. ⌜ r ≡ msFrom x n ⌝ }
+fn ms_from(x: [f64; 6], n: [usize; 4], stored: u32) -> State
+    ensures { λ r. ⌜ r ≡ msFrom x n stored ⌝ }
 {
     let st = ChemstationMsState {
         n_scans_left: Scans(n[1]),
         n_mzs_left: Points(n[2]),
         cur_time: x[0],
         cur_intensity: x[1],
+        stored_time: stored,
     };
     State::Ms(st)
 }
@@ -145,8 +161,8 @@ fn mwd_from(x: [f64; 6], n: [usize; 4]) -> State
     State::Mwd(st)
 }
 
-fn dad_from(x: [f64; 6], n: [usize; 4]) -> State
-    ensures { λ r. ⌜ r ≡ dadFrom x n ⌝ }
+fn dad_from(x: [f64; 6], n: [usize; 4], stored: u32) -> State
+    ensures { λ r. ⌜ r ≡ dadFrom x n stored ⌝ }
 {
     let st = ChemstationDadState {
         n_scans_left: Scans(n[1]),
@@ -155,12 +171,13 @@ fn dad_from(x: [f64; 6], n: [usize; 4]) -> State
         cur_intensity: x[1],
         cur_wv: x[2],
         wv_step: x[3],
+        stored_time: stored,
     };
     State::Dad(st)
 }
 
-fn uv_from(x: [f64; 6], n: [usize; 4]) -> State
-    ensures { λ r. ⌜ r ≡ uvFrom x n ⌝ }
+fn uv_from(x: [f64; 6], n: [usize; 4], stored: u32) -> State
+    ensures { λ r. ⌜ r ≡ uvFrom x n stored ⌝ }
 {
     let st = ChemstationUvState {
         n_scans_left: Scans(n[1]),
@@ -170,6 +187,7 @@ fn uv_from(x: [f64; 6], n: [usize; 4]) -> State
         cur_wv: x[2],
         wv_step: x[3],
         mult_correction: x[4],
+        stored_time: stored,
     };
     State::Uv(st)
 }
@@ -200,16 +218,16 @@ fn array_from(x: [f64; 6], n: [usize; 4]) -> State
 }
 
 // The state that the numbers hold.
-pub fn state_of(x: [f64; 6], n: [usize; 4]) -> Kept
-    ensures { λ r. ⌜ r ≡ stateOf x n ⌝ }
+pub fn state_of(x: [f64; 6], n: [usize; 4], stored: u32) -> Kept
+    ensures { λ r. ⌜ r ≡ stateOf x n stored ⌝ }
 {
     let kind = n[0];
     match kind {
         1 => Kept::State(fid_from(x)),
-        2 => Kept::State(ms_from(x, n)),
+        2 => Kept::State(ms_from(x, n, stored)),
         3 => Kept::State(mwd_from(x, n)),
-        4 => Kept::State(dad_from(x, n)),
-        5 => Kept::State(uv_from(x, n)),
+        4 => Kept::State(dad_from(x, n, stored)),
+        5 => Kept::State(uv_from(x, n, stored)),
         6 => Kept::State(array_from(x, n)),
         _ => Kept::NoKind,
     }

@@ -1,4 +1,5 @@
 -- What Next record answers, by a state and the rule of its fields.
+use Prim.Native.Nat.{ℕ}
 use lib.Ieee.{Float}
 use Rattle.rules.specs.Rule.{Rule, mapRule, Read, got, stops}
 use Rattle.rules.specs.Calls.{Item}
@@ -36,8 +37,17 @@ ruleBy st fields = mapRule (stepped (sumOf st)) fields
 -- a record's unscaled intensity
 abbrev pub unscaledOf : Record → Float
 unscaledOf (Trace t u s) = u
-unscaledOf (Mass t m u s) = u
-unscaledOf (Spectrum t w u s) = u
+unscaledOf (Mass t m u s min left) = u
+unscaledOf (Spectrum t w u s min left) = u
+
+-- the stored time of the scan, in milliseconds; 0 where the kind has none
+abbrev pub storedOf : State → ℕ
+storedOf (Fid st) = 0
+storedOf (Ms st) = st .«stored_time»
+storedOf (Mwd st) = 0
+storedOf (Dad st) = st .«stored_time»
+storedOf (Uv st) = st .«stored_time»
+storedOf (Array st) = 0
 
 -- what an answer says
 abbrev pub answerOf : Next → Read (Item State Record)

@@ -1,7 +1,7 @@
 -- Document 01, 'Record streams' (FORMAT 5): what the fields of a record tell, and what several kinds share of it.
 use mathlib.Core.Bool.{Bool, false, cond}
 use mathlib.Core.List.{List}
-use Prim.Native.Nat.{ℕ}
+use Prim.Native.Nat.{ℕ, _/_, _%_}
 use lib.Dec.{eqb}
 use lib.IntN.{ℤ, pos, negsuc}
 use lib.Ieee.{Float, binary64, add, mul, div}
@@ -40,6 +40,15 @@ twentieths n = div binary64 (double n) (double 20)
 -- FID and MWD: 'the value is multiplied by the correction, then the offset added, each rounded once'
 abbrev pub corrected : Float → Float → Float → Float
 corrected mult offset y = add binary64 (mul binary64 y mult) offset
+
+-- ---- a stored time
+
+-- 'whole minutes and leftover milliseconds from the stored u32': of a time in milliseconds
+abbrev pub wholeMinutes : ℕ → ℕ
+wholeMinutes ms = ms / 60000
+
+abbrev pub leftover : ℕ → ℕ
+leftover ms = ms % 60000
 
 -- ---- integers compared
 

@@ -22,7 +22,8 @@ pub struct Points(pub usize);
 
 pub struct Bytes(pub usize);
 
-// Times in minutes, wavelengths in nanometres.
+// Times in minutes, wavelengths in nanometres. A point of a scan has the scan's stored time too, in whole minutes and the
+// milliseconds left over.
 pub enum Record {
     Trace {
         time: f64,
@@ -34,16 +35,21 @@ pub enum Record {
         mz: f64,
         unscaled: f64,
         scaled: f64,
+        minutes: u32,
+        leftover: u32,
     },
     Spectrum {
         time: f64,
         wavelength: f64,
         unscaled: f64,
         scaled: f64,
+        minutes: u32,
+        leftover: u32,
     },
 }
 
-// ---- the states, in the order of the Rust's files
+// ---- the states, in the order of the Rust's files. The stored time stands first: in a place where other kinds have a double it
+// would keep their doubles out of the registers.
 
 pub struct ChemstationFidState {
     // of the record before, in minutes
@@ -58,6 +64,8 @@ pub struct ChemstationFidState {
 }
 
 pub struct ChemstationMsState {
+    // of the scan as stored, in milliseconds
+    pub stored_time: u32,
     pub n_scans_left: Scans,
     pub n_mzs_left: Points,
     // of the scan, in minutes
@@ -77,6 +85,8 @@ pub struct ChemstationMwdState {
 }
 
 pub struct ChemstationDadState {
+    // of the scan as stored, in milliseconds
+    pub stored_time: u32,
     pub n_scans_left: Scans,
     pub n_bytes_left: Bytes,
     // of the scan, in milliseconds
@@ -89,6 +99,8 @@ pub struct ChemstationDadState {
 }
 
 pub struct ChemstationUvState {
+    // of the scan as stored, in milliseconds
+    pub stored_time: u32,
     pub n_scans_left: Scans,
     pub n_wvs_left: Points,
     // of the scan, in minutes

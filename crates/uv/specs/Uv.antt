@@ -9,7 +9,7 @@ use Rattle.common.specs.Bytes.{le}
 use Rattle.common.specs.Fields.{u16, u32}
 use Rattle.floats.specs.Doubles.{double, minutes}
 use Rattle.streams.specs.Changes.{Change, clears}
-use Rattle.streams.specs.Told.{Made, Told, told, twentieths, delta, changeOf}
+use Rattle.streams.specs.Told.{Made, Told, told, twentieths, wholeMinutes, leftover, delta, changeOf}
 use Rattle.streams.specs.Scanning.{Scanning, scanning}
 use Rattle.streams.specs.declared.ChemstationUvState.{ChemstationUvState}
 use Rattle.streams.specs.declared.Scans.{Scans}
@@ -21,7 +21,7 @@ abbrev pub uvMade : ChemstationUvState → Scans → Made
 uvMade st scans =
     let here = add binary64 (st .«cur_wv») (st .«wv_step») in
     record {
-      shows = λ y. Spectrum (st .«cur_time») here y (mul binary64 y (st .«mult_correction»));
+      shows = λ y. Spectrum (st .«cur_time») here y (mul binary64 y (st .«mult_correction»)) (wholeMinutes (st .«stored_time»)) (leftover (st .«stored_time»));
       then = λ s. Uv (record {
         «n_scans_left» = scans;
         «n_wvs_left» = record { 0 = st .«n_wvs_left» .0 - 1 };
@@ -30,6 +30,7 @@ uvMade st scans =
         «cur_wv» = here;
         «wv_step» = st .«wv_step»;
         «mult_correction» = st .«mult_correction»;
+        «stored_time» = st .«stored_time»;
       });
     }
 
@@ -46,6 +47,7 @@ uvBegun st time start end step = record {
   «cur_wv» = sub binary64 (twentieths start) (twentieths step);
   «wv_step» = twentieths step;
   «mult_correction» = st .«mult_correction»;
+  «stored_time» = time;
 }
 
 -- '4 bytes, u32 time .., u16 start, end, step; ..; value 0; 8 bytes'; '12: UV start above end. 13: UV step 0'

@@ -44,6 +44,8 @@ fn uv_given(st: ChemstationUvState, scans: Scans, value: f64, n: usize) -> Next
         wavelength: cur_wv,
         unscaled: value,
         scaled: value * st.mult_correction,
+        minutes: st.stored_time / 60000,
+        leftover: st.stored_time % 60000,
     };
     let points = st.n_wvs_left.0;
     let state = ChemstationUvState {
@@ -54,6 +56,7 @@ fn uv_given(st: ChemstationUvState, scans: Scans, value: f64, n: usize) -> Next
         cur_wv,
         wv_step: st.wv_step,
         mult_correction: st.mult_correction,
+        stored_time: st.stored_time,
     };
     Next::Given(record, State::Uv(state), n)
 }
@@ -94,6 +97,7 @@ fn uv_begun(
         cur_wv,
         wv_step,
         mult_correction: st.mult_correction,
+        stored_time: time,
     }
 }
 

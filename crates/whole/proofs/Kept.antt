@@ -116,14 +116,14 @@ module _ {s : Sum Float} {w : Sum ℤ} {n : ℕ} where
       kept : (c : Change) → Slopes (changed doubles s c) (changed wholes w c) (deltasAfter n c) → Keeps s w n (told (fidMade st) (c ∷ []))
       kept c h = record { kind = λ m i. i; holds = h; shown = λ i. refl; same = refl }
 
-  ms-point : (scans : Scans) (points : Points) (time : Float) → Adds s w n → Every (Keeps s w n) (msPoint scans points time)
+  ms-point : (scans : Scans) (points : Points) (time : Float) (stored : ℕ) → Adds s w n → Every (Keeps s w n) (msPoint scans points time stored)
   unfolding msPoint
-  ms-point scans points time h =
+  ms-point scans points time stored h =
       every-then any λ m _. every-then (unsigned be-below 2) λ r l. every-cond (eqb (points .0) 1)
       (λ t. every-then any λ _ _. at-gives (kept _ _ m r l))
       (λ t. at-gives (kept _ _ m r l))
     where
-      kept : (scans : Scans) (points : Points) (m r : ℕ) → r < 65536 → Keeps s w n (told (msMade scans points time m) (msValue r ∷ []))
+      kept : (scans : Scans) (points : Points) (m r : ℕ) → r < 65536 → Keeps s w n (told (msMade scans points time stored m) (msValue r ∷ []))
       kept scans points m r l = record { kind = λ m i. i; holds = (adds-all (msValue r ∷ []) s w n (mass-fair r l, tt) h, omega arith); shown = λ i. refl; same = refl }
 
   ms-scans : (scans : ℕ) → Adds s w n → Every (Keeps s w n) (msScans scans)
@@ -131,10 +131,10 @@ module _ {s : Sum Float} {w : Sum ℤ} {n : ℕ} where
   ms-scans zero h = at-ends
   ms-scans (suc scans) h =
       every-then any λ c _. every-cond (ltb c 14) (λ t. at-refuses)
-      (λ t. every-then any λ time _. every-then any λ _ _. every-cond (eqb ((c - 14) / 2) 0) (λ t. every-then any λ _ _. ms-scans scans h) (λ t. ms-point _ _ _ h))
+      (λ t. every-then any λ time _. every-then any λ _ _. every-cond (eqb ((c - 14) / 2) 0) (λ t. every-then any λ _ _. ms-scans scans h) (λ t. ms-point _ _ _ _ h))
 
   ms-keeps : (st : ChemstationMsState) → Adds s w n → Every (Keeps s w n) (msRule st)
-  ms-keeps st h = every-scanning (msScanning st) (ms-scans (st .«n_scans_left» .0) h) (λ z. ms-point _ _ _ h)
+  ms-keeps st h = every-scanning (msScanning st) (ms-scans (st .«n_scans_left» .0) h) (λ z. ms-point _ _ _ _ h)
 
   -- a point of MWD, DAD or UV
   point : {order : List ℕ → ℕ} (m : Delta → Made) (first : List Change) → Order order → AllFair first → Adds s w n →

@@ -107,7 +107,11 @@ module _ {M : Type 1} (𝓤 : URA M) (H : Heap 𝓤) (A : Atoms 𝓤) (W : Given
 field-next : fieldOf (at-table Q.the-row) 0 ≡ some (at-table N.the-row, 0)
 field-next = refl
 
-field-at : fieldOf (at-table Q.the-row) 1 ≡ some (tyInt w64, 120)
+-- the bytes of a `Next`, behind which the position stands: the one number here that its fields decide
+abbrev next-size : ℕ
+next-size = 136
+
+field-at : fieldOf (at-table Q.the-row) 1 ≡ some (tyInt w64, next-size)
 field-at = refl
 
 -- the two fields of what the callee returns, in its cell
@@ -125,8 +129,8 @@ module _ {M : Type 1} {𝓤 : URA M} {H : Heap 𝓤} {A : Atoms 𝓤} {K : Type 
   next-in : K → (b : ℕ) (x n : Val) → Part K W (‵ (cell b x n)) fullShare (at-table N.the-row) b 0 x (λ u. ‵ (cell b u n))
   next-in k b = first-in (Q.struct .name) (tcons (at-table N.the-row) (tcons (tyInt w64) tnil)) (at-table N.the-row) 0 field-next k b 0
 
-  at-in : K → (b : ℕ) (x n : Val) → Part K W (‵ (cell b x n)) fullShare (tyInt w64) b 120 n (λ u. ‵ (cell b x u))
-  at-in k b = second-in (Q.struct .name) (tcons (at-table N.the-row) (tcons (tyInt w64) tnil)) (tyInt w64) 120 field-at k b 0
+  at-in : K → (b : ℕ) (x n : Val) → Part K W (‵ (cell b x n)) fullShare (tyInt w64) b next-size n (λ u. ‵ (cell b x u))
+  at-in k b = second-in (Q.struct .name) (tcons (at-table N.the-row) (tcons (tyInt w64) tnil)) (tyInt w64) next-size field-at k b 0
 
   bytes-in : K → (κ′ : Lft) (b o : ℕ) (v n : Val) → Part K W (‵ (held b o v n)) fullShare slice b (o + 0) v (λ u. ‵ (held b o u n))
   bytes-in k κ′ = first-in (T.struct (α κ′) .name) (tcons slice (tcons (tyInt w64) tnil)) slice 0 refl k

@@ -88,7 +88,11 @@ module _ {M : Type 1} (𝓤 : URA M) (H : Heap 𝓤) (A : Atoms 𝓤) (W : Given
 field-given : fieldOf (at-table P.the-row) 0 ≡ some (at-table G.the-row, 0)
 field-given = refl
 
-field-state : fieldOf (at-table P.the-row) 1 ≡ some (at-table S.the-row, 56)
+-- the bytes of a `Given`, behind which the state stands: the one number here that its fields decide
+abbrev given-size : ℕ
+given-size = 64
+
+field-state : fieldOf (at-table P.the-row) 1 ≡ some (at-table S.the-row, given-size)
 field-state = refl
 
 -- the two fields of what the callee returns, in its cell
@@ -99,8 +103,8 @@ module _ {M : Type 1} {𝓤 : URA M} {H : Heap 𝓤} {A : Atoms 𝓤} {K : Type 
   given-in : K → (b : ℕ) (g t : Val) → Part K W (‵ (cell b g t)) fullShare (at-table G.the-row) b 0 g (λ u. ‵ (cell b u t))
   given-in k b = first-in (P.struct .name) (tcons (at-table G.the-row) (tcons (at-table S.the-row) tnil)) (at-table G.the-row) 0 field-given k b 0
 
-  state-in : K → (b : ℕ) (g t : Val) → Part K W (‵ (cell b g t)) fullShare (at-table S.the-row) b 56 t (λ u. ‵ (cell b g u))
-  state-in k b = second-in (P.struct .name) (tcons (at-table G.the-row) (tcons (at-table S.the-row) tnil)) (at-table S.the-row) 56 field-state k b 0
+  state-in : K → (b : ℕ) (g t : Val) → Part K W (‵ (cell b g t)) fullShare (at-table S.the-row) b given-size t (λ u. ‵ (cell b g u))
+  state-in k b = second-in (P.struct .name) (tcons (at-table G.the-row) (tcons (at-table S.the-row) tnil)) (at-table S.the-row) given-size field-state k b 0
 
 -- the contract that the proof cites
 abbrev StepC : {M : Type 1} (𝓤 : URA M) (H : Heap 𝓤) (A : Atoms 𝓤) (mem : Memory → SProp 𝓤) (run : Routine → Fun 𝓤) → Contract 𝓤

@@ -12,13 +12,13 @@ returns c =
 
 returns-2 : tie.Need-returns-2
 returns-2 c =
-    let f = c .before .before .before .before .before .before .before .before .before .before .before .before in
-    let m = f .before .before .before .before .before .before .before .before in
-    rw (c .closing-number .ensures, c .before .before .counts-of .ensures, c .before .before .before .numbers-of .ensures)
-    (fills-into _ _ _ _ _ _ (sym (m .state-of .ensures) ∙ f .before .before .before .before .before .before .st .given .1) (f .fill-columns .ensures))
+    let f = c .before .before .before .before .before .before .before .before .before .before .before .before .before .before .before .before .before in
+    let m = f .before .before .before .before .before .before .before .before .before .before in
+    rw (c .closing-number .ensures, c .before .before .stored-of .ensures, c .before .before .before .counts-of .ensures, c .before .before .before .before .numbers-of .ensures)
+    (fills-into _ _ _ _ _ _ (sym (m .state-of .ensures) ∙ f .before .before .before .before .before .before .before .before .st .given .1) (f .fill-columns .ensures))
 
 pub chemstation-fill-spec : {M : Type 1} → statement M
 chemstation-fill-spec =
     tie.close
-    (tie.spec (λ c κs. search needs) (λ c. search needs) (λ c κs. search needs) (λ c. search needs) (λ c κs. search needs) (λ c κs. search needs) (λ c κs. search needs) (λ c κs. search needs)
-    returns (λ c. search needs) (λ c. search needs) (λ c. search needs) (λ c. search needs) returns-2)
+    (tie.spec (λ c κs. search needs) (λ c. search needs) (λ c κs. search needs) (λ c. search needs) (λ c κs. search needs) (λ c κs. search needs) (λ c κs. search needs) (λ c κs. search needs) (λ c κs. search needs)
+    returns (λ c. search needs) (λ c. search needs) (λ c. search needs) (λ c. search needs) (λ c. search needs) (λ c. search needs) returns-2)

@@ -9,11 +9,12 @@ returns c = rw (c .stop-number .ensures) (opens-into _ _ (c .before .before .bef
 
 returns-2 : tie.Need-returns-2
 returns-2 c =
-    let h = c .before .before .before .before .before in
-    rw (h .header-of .ensures, c .before .before .before .before .corrections-of .ensures, c .before .numbers-of .ensures, c .counts-of .ensures) (opens-into _ _ (h .before .before .before .before .before .open-run .ensures) (h .before .before .answer2 .given .1))
+    let h = c .before .before .before .before .before .before in
+    rw (h .header-of .ensures, c .before .before .before .before .before .corrections-of .ensures, c .before .before .numbers-of .ensures, c .before .counts-of .ensures, c .stored-of .ensures)
+    (opens-into _ _ (h .before .before .before .before .before .open-run .ensures) (h .before .before .answer2 .given .1))
 
 pub chemstation-open-spec : {M : Type 1} → statement M
 chemstation-open-spec =
     tie.close
-    (tie.spec (λ c κs. search needs) (λ c. search needs) (λ c κs. search needs) (λ c. search needs) (λ c κs. search needs) (λ c κs. search needs) (λ c κs. search needs) (λ c κs. search needs)
+    (tie.spec (λ c κs. search needs) (λ c. search needs) (λ c κs. search needs) (λ c. search needs) (λ c κs. search needs) (λ c κs. search needs) (λ c κs. search needs) (λ c κs. search needs) (λ c κs. search needs)
     returns returns-2)

@@ -7,7 +7,7 @@ use Rattle.dad.proofs.dad_given.Tie as tie
 returns : tie.Need-returns
 unfolding ofInt ofBits
 returns c =
-    let f = c .before .before in
+    let f = c .before .before .before .before in
     rw (f .minutes-of .ensures, f .before .saturating-sub .ensures, f .before .before .delta-width .ensures, f .before .before .before .changed-by .ensures)
 
 pub dad-given-spec : {M : Type 1} → statement M

@@ -48,11 +48,11 @@ returns-5 c =
     let here = size .before .before in
     let type = here .before in
     let a = type .before .before .before .args in
-    rw (c .dad-point .ensures, zero, step .f64-from-u162 .ensures, step .before .le-u164 .ensures, start .f64-from-u16 .ensures, start .before .le-u163 .ensures, time .f64-from-u32 .ensures, time .before .le-u32 .ensures)
+    rw (c .dad-point .ensures, zero, step .f64-from-u162 .ensures, step .before .le-u164 .ensures, start .f64-from-u16 .ensures, start .before .le-u163 .ensures, time .f64-from-u32 .ensures, time .before .before .le-u32 .ensures)
     (sym (dad-first (a .st) (a .last) (a .s .now) (type .le-u16 .ensures) (here .if2 .left) (size .le-u162 .ensures) (bytes .saturating-sub .ensures) (omega arith) (some .if4 .left)))
 
 pub dad-scan-spec : {M : Type 1} → statement M
 dad-scan-spec =
     tie.close
     (tie.spec (λ c κs. search needs) returns (λ c κs. search needs) returns-2 (λ c κs. search needs) returns-3 (λ c κs. search needs) (λ c. search needs) (λ c κs. search needs) returns-4
-    (λ c. search needs) (λ c κs. search needs) (λ c κs. search needs) (λ c κs. search needs) (λ c κs. search needs) (λ c κs. search needs) (λ c κs. search needs) (λ c κs. search needs) returns-5)
+    (λ c κs. search needs) (λ c. search needs) (λ c κs. search needs) (λ c κs. search needs) (λ c κs. search needs) (λ c κs. search needs) (λ c κs. search needs) (λ c κs. search needs) returns-5)

@@ -11,26 +11,26 @@ use Rattle.ms.proofs.ms_point.Tie as tie
 returns : tie.Need-returns
 returns c v =
     let a = c .before .before .before .args in
-    ap stops (c .cut .ensures) ∙ ap (mapRead (stepped v)) (sym (point-cut (a .scans) (a .points) (a .time) (a .last) (a .at) (a .s .now) (omega arith) (omega arith)))
+    ap stops (c .cut .ensures) ∙ ap (mapRead (stepped v)) (sym (point-cut (a .scans) (a .points) (a .time) (a .stored) (a .last) (a .at) (a .s .now) (omega arith) (omega arith)))
 
 returns-2 : tie.Need-returns-2
 returns-2 c v =
     let b = c .before .before .before .before in
     let a = b .before .before .before .before .before .args in
     rw (c .ms-given .ensures, b .ms-intensity .ensures, b .before .be-u162 .ensures, b .before .before .be-u16 .ensures)
-    (ap (mapRead (stepped v)) (sym (point-inner (a .scans) (a .points) (a .time) (a .last) (a .at) (a .s .now) (omega arith) (c .before .before .if2 .taken))))
+    (ap (mapRead (stepped v)) (sym (point-inner (a .scans) (a .points) (a .time) (a .stored) (a .last) (a .at) (a .s .now) (omega arith) (c .before .before .if2 .taken))))
 
 returns-3 : tie.Need-returns-3
 returns-3 c v =
     let a = c .before .before .before .before .before .before .before .before .before .args in
-    ap stops (c .cut2 .ensures) ∙ ap (mapRead (stepped v)) (sym (footer-cut (a .scans) (a .points) (a .time) (a .last) (a .at) (a .s .now) (omega arith) (omega arith) (c .before .before .if2 .left)))
+    ap stops (c .cut2 .ensures) ∙ ap (mapRead (stepped v)) (sym (footer-cut (a .scans) (a .points) (a .time) (a .stored) (a .last) (a .at) (a .s .now) (omega arith) (omega arith) (c .before .before .if2 .left)))
 
 returns-4 : tie.Need-returns-4
 returns-4 c v =
     let b = c .before .before .before .before .before in
     let a = b .before .before .before .before .before .args in
     rw (c .ms-given2 .ensures, b .ms-intensity .ensures, b .before .be-u162 .ensures, b .before .before .be-u16 .ensures)
-    (ap (mapRead (stepped v)) (sym (point-last (a .scans) (a .points) (a .time) (a .last) (a .at) (a .s .now) (omega arith) (c .before .before .before .if2 .left))))
+    (ap (mapRead (stepped v)) (sym (point-last (a .scans) (a .points) (a .time) (a .stored) (a .last) (a .at) (a .s .now) (omega arith) (c .before .before .before .if2 .left))))
 
 pub ms-point-spec : {M : Type 1} → statement M
 ms-point-spec =

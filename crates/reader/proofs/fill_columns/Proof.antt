@@ -9,10 +9,10 @@ returns : tie.Need-returns
 returns c = rw (sym (c .before .before .all-equal .ensures) ∙ not-true _ (c .before .if1 .taken)) (c .unequal .ensures _)
 
 fill-equal-requires : tie.Need-fill-equal-requires
-fill-equal-requires c κs = let i = c .before .before .before .before in sym (i .before .all-equal .ensures) ∙ not-false _ (i .if1 .left)
+fill-equal-requires c κs = let i = c .before .before .before .before .before .before in sym (i .before .all-equal .ensures) ∙ not-false _ (i .if1 .left)
 
 pub fill-columns-spec : {M : Type 1} → statement M
 fill-columns-spec =
     tie.close
-    (tie.spec (λ c κs. search needs) (λ c κs. search needs) returns fill-equal-requires (λ c. search needs) (λ c. search needs) (λ c. search needs) (λ c. search needs)
+    (tie.spec (λ c κs. search needs) (λ c κs. search needs) returns fill-equal-requires (λ c. search needs) (λ c. search needs) (λ c. search needs) (λ c. search needs) (λ c. search needs) (λ c. search needs)
     (λ c. search needs))

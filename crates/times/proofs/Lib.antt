@@ -1,0 +1,3 @@
+mod Told
+mod Readings
+mod Widths

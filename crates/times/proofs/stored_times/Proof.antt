@@ -1,0 +1,22 @@
+-- The laws, cited.
+use Rattle.times.proofs.Readings.{stamped, begun, reads, calls, zeros}
+use Rattle.times.proofs.Widths.{lengths, unequal, unwritten, exact, rows, shown}
+use Rattle.times.proofs.stored_times.Statement.{statement}
+use Rattle.times.proofs.stored_times.Tie as tie
+
+returns : tie.Need-returns
+returns c = record {
+  next = stamped;
+  calls = calls;
+  reads = λ kind x last n s. reads last n _ s (begun kind x) .timed;
+  exact = exact;
+  rows = rows;
+  zeros = zeros;
+  lengths = lengths;
+  unequal = unequal;
+  unwritten = unwritten;
+  shown = shown;
+}
+
+pub stored-times-spec : {M : Type 1} → statement M
+stored-times-spec = tie.close (tie.spec returns)
