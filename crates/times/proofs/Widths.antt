@@ -1,6 +1,5 @@
 -- A row; the lengths of the six columns; a u32 as a double; the run to look at.
 use mathlib.Core.Path.{_≡_, refl, _∙_}
-use mathlib.Core.Logic.{_↔_}
 use mathlib.Core.Bool.{Bool, true, false, cond}
 use mathlib.Core.List.{List, [], _∷_}
 use Prim.Native.Nat.{ℕ, _^_, _≤_, _<_}
@@ -14,23 +13,30 @@ use Rattle.rules.specs.Calls.{stopped, nothing, readUpTo}
 use Rattle.floats.specs.Doubles.{double}
 use Rattle.floats.specs.Wholes.{IsWhole}
 use Rattle.floats.proofs.Exact.{whole-of}
+use Rattle.chemstation.specs.Next.{rule}
 use Rattle.streams.specs.Scanning.{scanning}
 use Rattle.streams.specs.declared.State.{State}
 use Rattle.ms.specs.Ms.{msScans, msPoint}
 use Rattle.streams.specs.declared.Record.{Record}
 use Rattle.streams.specs.declared.Record.the-variants.{Trace, Mass, Spectrum}
-use Rattle.reader.specs.Columns.{rowOf, Columns, equalLengths, Even, columnsWith, fillOf}
+use Rattle.reader.specs.Columns.{rowOf, Columns, equalLengths, columnsWith, fillOf}
 use Rattle.reader.proofs.ColumnLaws.{even-if}
-use Rattle.times.specs.Times.{Carries, CarriesRow, shownRun, shownColumns}
+use Rattle.times.specs.Times.{Carries, CarriesRow, OneLength, shownRun, shownColumns}
 
-pub lengths : (c : Columns) → (equalLengths c ≡ true) ↔ Even (length (c .time)) c
-lengths c = (even-if c, λ e. rw (eq-eqb _ _ (e .axis), eq-eqb _ _ (e .unscaled), eq-eqb _ _ (e .scaled), eq-eqb _ _ (e .minutes), eq-eqb _ _ (e .leftover)) refl)
+equal-if : (c : Columns) → OneLength c → equalLengths c ≡ true
+equal-if c e = rw (eq-eqb _ _ (e .axis), eq-eqb _ _ (e .unscaled), eq-eqb _ _ (e .scaled), eq-eqb _ _ (e .minutes), eq-eqb _ _ (e .leftover)) refl
 
-pub unequal : (st : State) (s : List ℕ) (last : Bool) (c : Columns) → ¬ Even (length (c .time)) c → fillOf st s last c ≡ nothing st (stopped (refused 15))
+pub equal : (st : State) (s : List ℕ) (last : Bool) (c : Columns) → OneLength c → fillOf st s last c ≡ readUpTo rule last (length (c .time)) st s
+equal st s last c h = rw (equal-if c h) refl
+
+one-length : (c : Columns) → equalLengths c ≡ true → OneLength c
+one-length c e = let h = even-if c e in record { axis = h .axis; unscaled = h .unscaled; scaled = h .scaled; minutes = h .minutes; leftover = h .leftover }
+
+pub unequal : (st : State) (s : List ℕ) (last : Bool) (c : Columns) → ¬ OneLength c → fillOf st s last c ≡ nothing st (stopped (refused 15))
 unequal st s last c h = go (equalLengths c) refl
   where
     go : (b : Bool) → equalLengths c ≡ b → fillOf st s last c ≡ nothing st (stopped (refused 15))
-    go true e = absurd (h (even-if c e))
+    go true e = absurd (h (one-length c e))
     go false e = rw e refl
 
 pub unwritten : (c : Columns) → columnsWith [] c ≡ c

@@ -1,6 +1,5 @@
 -- Request 2: the stored time of a record's scan, in whole minutes and the milliseconds left over; and the columns that have them.
 use mathlib.Core.Path.{_≡_}
-use mathlib.Core.Logic.{_↔_}
 use mathlib.Core.Bool.{Bool, true, false, cond}
 use mathlib.Core.List.{List, [], _∷_, _++_}
 use Prim.Native.Nat.{ℕ, zero, suc, _+_, _-_, _*_, _/_, _^_, _≤_, _<_}
@@ -21,7 +20,7 @@ use Rattle.streams.specs.declared.Record.{Record}
 use Rattle.streams.specs.declared.Record.the-variants.{Trace, Mass, Spectrum}
 use Rattle.chemstation.specs.Next.{rule}
 use Rattle.opening.specs.Opening.{msBegins, begins, startRule}
-use Rattle.reader.specs.Columns.{rowOf, Columns, columns, equalLengths, Even, columnsWith, fillOf}
+use Rattle.reader.specs.Columns.{rowOf, Columns, columns, columnsWith, fillOf}
 use Rattle.reader.specs.declared.Row.{Row}
 
 -- ---- the stored time of the scan that the next point belongs to, in milliseconds
@@ -88,6 +87,16 @@ abbrev pub All : (Record → Type 0) → List Record → Type 0
 All P [] = Unit
 All P (r ∷ rs) = P r × All P rs
 
+-- ---- the length check
+
+-- all six of one length
+pub record OneLength (c : Columns) : Type 0 where
+  pub axis : length (c .axis) ≡ length (c .time)
+  pub unscaled : length (c .unscaled) ≡ length (c .time)
+  pub scaled : length (c .scaled) ≡ length (c .time)
+  pub minutes : length (c .minutes) ≡ length (c .time)
+  pub leftover : length (c .leftover) ≡ length (c .time)
+
 -- ---- a run to look at
 
 -- two MS scans, the first without points: one minute; then two points at 125,001 milliseconds
@@ -115,8 +124,8 @@ pub record StoredTimes : Type 0 where
       let rs = (readUpTo rule last n st s) .records in
       ((columnsWith rs old) .minutes ≡ replicate (length rs) 0 ++ drop (length rs) (old .minutes)) × ((columnsWith rs old) .leftover ≡ replicate (length rs) 0 ++ drop (length rs) (old .leftover))
   -- 'under the same length check as the others': one, over all six; where it fails nothing is written
-  pub lengths : (c : Columns) → (equalLengths c ≡ true) ↔ Even (length (c .time)) c
-  pub unequal : (st : State) (s : List ℕ) (last : Bool) (c : Columns) → ¬ Even (length (c .time)) c → fillOf st s last c ≡ nothing st (stopped (refused 15))
+  pub equal : (st : State) (s : List ℕ) (last : Bool) (c : Columns) → OneLength c → fillOf st s last c ≡ readUpTo rule last (length (c .time)) st s
+  pub unequal : (st : State) (s : List ℕ) (last : Bool) (c : Columns) → ¬ OneLength c → fillOf st s last c ≡ nothing st (stopped (refused 15))
   pub unwritten : (c : Columns) → columnsWith [] c ≡ c
   -- 2 minutes and 5,001 milliseconds, twice, and the third place as it was
   pub shown : (shownColumns .minutes ≡ 2 ∷ 2 ∷ 7 ∷ []) × (shownColumns .leftover ≡ 5001 ∷ 5001 ∷ 7 ∷ [])

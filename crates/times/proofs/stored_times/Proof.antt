@@ -1,6 +1,6 @@
 -- The laws, cited.
 use Rattle.times.proofs.Readings.{stamped, begun, reads, calls, zeros}
-use Rattle.times.proofs.Widths.{lengths, unequal, unwritten, exact, rows, shown}
+use Rattle.times.proofs.Widths.{equal, unequal, unwritten, exact, rows, shown}
 use Rattle.times.proofs.stored_times.Statement.{statement}
 use Rattle.times.proofs.stored_times.Tie as tie
 
@@ -12,7 +12,7 @@ returns c = record {
   exact = exact;
   rows = rows;
   zeros = zeros;
-  lengths = lengths;
+  equal = equal;
   unequal = unequal;
   unwritten = unwritten;
   shown = shown;
