@@ -112,7 +112,7 @@ uint8_t chemstation_text(uint8_t kind, uint8_t number, const uint8_t *bytes, siz
  * FULL: there may be more. MORE_BYTES: there are more, or a refusal is due, and the bytes do not tell. FINISHED: the run has
  * ended. A refusal (11 to 14): it cannot be read on.
  * LENT_LENGTH, the lengths differ: no record is given, both numbers of `given` are 0, the columns are as they were, and so is the
- * state (with 0 in the places that its kind has no use for).
+ * state (with 0 in the places that its kind has no use for, and 1 for any record type but 0).
  * UNKNOWN_KIND, counts[0] is not 1 to 6: both numbers of `given` are 0, and nothing else is written.
  *
  * The state, for who stores it: numbers = time (in minutes; of DAD the scan's, in milliseconds), intensity, slope or wavelength, step,

@@ -13,23 +13,23 @@ use Rattle.common.proofs.Every.{Gets, leads}
 use Rattle.floats.specs.Doubles.{double, minutes}
 use Rattle.metadata.specs.Metadata.{Header, openRule}
 use Rattle.streams.specs.Told.{Told}
-use Rattle.streams.specs.Next.{sumOf, stepped}
+use Rattle.streams.specs.Next.{sumOf, stepped, storedOf}
 use Rattle.streams.specs.declared.State.{State}
 use Rattle.streams.specs.declared.Record.{Record}
 use Rattle.streams.specs.declared.Record.the-variants.{Trace, Mass, Spectrum}
 use Rattle.chemstation.specs.Next.{fields, rule}
 use Rattle.opening.specs.Opening.{begins, startRule}
 use Rattle.reader.specs.Columns.{rowOf, Columns, columnsWith}
-use Rattle.times.specs.Times.{scanTime, stores, Carries, Stamped, Timed, All}
-use Rattle.times.proofs.Told.{Agrees, Tells, tells}
+use Rattle.times.specs.Times.{scanTime, scanMinutes, stores, Carries, Stamped, Timed, Agrees, All}
+use Rattle.times.proofs.Told.{Tells, tells}
 
 -- ---- one record
 
 -- what is read of a state's next record, by what its fields tell
-told-of : (st : State) (last : Bool) (s : List ℕ) → Gets (λ x. (t : Told) × (Tells st (scanTime st s) t × (x ≡ stepped (sumOf st) t))) (read last (rule st) s)
+told-of : (st : State) (last : Bool) (s : List ℕ) → Gets (λ x. (t : Told) × (Tells st (scanTime st s) (scanMinutes st s) t × (x ≡ stepped (sumOf st) t))) (read last (rule st) s)
 told-of st last s = rw (read-map last (stepped (sumOf st)) (fields st) s) (go (read last (fields st) s) (leads last (tells st s)))
   where
-    go : (x : Read Told) → Gets (Tells st (scanTime st s)) x → Gets (λ x. (t : Told) × (Tells st (scanTime st s) t × (x ≡ stepped (sumOf st) t))) (mapRead (stepped (sumOf st)) x)
+    go : (x : Read Told) → Gets (Tells st (scanTime st s) (scanMinutes st s)) x → Gets (λ x. (t : Told) × (Tells st (scanTime st s) (scanMinutes st s) t × (x ≡ stepped (sumOf st) t))) (mapRead (stepped (sumOf st)) x)
     go (got t n) p = (t, (p, refl))
     go (stops z) p = tt
 
@@ -39,14 +39,17 @@ Next st s x = Stamped st s x × (Agrees st → Timed (x .shows) × Agrees (x .af
 next-of : (st : State) (last : Bool) (s : List ℕ) → Gets (Next st s) (read last (rule st) s)
 next-of st last s = go (read last (rule st) s) (told-of st last s)
   where
-    go : (x : Read (Item State Record)) → Gets (λ x. (t : Told) × (Tells st (scanTime st s) t × (x ≡ stepped (sumOf st) t))) x → Gets (Next st s) x
+    go : (x : Read (Item State Record)) → Gets (λ x. (t : Told) × (Tells st (scanTime st s) (scanMinutes st s) t × (x ≡ stepped (sumOf st) t))) x → Gets (Next st s) x
     go (stops z) p = tt
     go (got x n) p =
         let q = p .1 .0 in
-        rw (p .1 .1) (record { carries = q .carries _; holds = q .holds _; kind = q .kind _ }, λ a. (q .timed a _, q .agrees a _))
+        rw (p .1 .1) (record { carries = q .carries _; shows = q .shows _; holds = q .holds _; kind = q .kind _ }, λ a. (q .timed a _, q .agrees a _))
 
 pub stamped : (st : State) (last : Bool) (s : List ℕ) (x : Item State Record) (n : ℕ) → read last (rule st) s ≡ got x n → Stamped st s x
 stamped st last s x n e = subst (Gets (Next st s)) e (next-of st last s) .0
+
+pub keeps : (st : State) (last : Bool) (s : List ℕ) (x : Item State Record) (n : ℕ) → read last (rule st) s ≡ got x n → Agrees st → Timed (x .shows) × Agrees (x .after)
+keeps st last s x n e = subst (Gets (Next st s)) e (next-of st last s) .1
 
 -- ---- readings
 
@@ -102,6 +105,14 @@ by-kind false st other p q = q
 pub begun : (kind : ℕ) (x : Header) → Agrees (begins kind x)
 unfolding begins
 begun kind x = by-kind (eqb kind 1) _ _ tt (by-kind (eqb kind 2) _ _ zero-minutes (by-kind (eqb kind 3) _ _ tt (by-kind (eqb kind 4) _ _ refl (by-kind (eqb kind 5) _ _ zero-minutes tt))))
+
+none-stored : (b : Bool) (st other : State) → storedOf st ≡ 0 → storedOf other ≡ 0 → storedOf (cond b st other) ≡ 0
+none-stored true st other p q = p
+none-stored false st other p q = q
+
+pub opens : (kind : ℕ) (x : Header) → storedOf (begins kind x) ≡ 0
+unfolding begins
+opens kind x = none-stored (eqb kind 1) _ _ refl (none-stored (eqb kind 2) _ _ refl (none-stored (eqb kind 3) _ _ refl (none-stored (eqb kind 4) _ _ refl (none-stored (eqb kind 5) _ _ refl refl))))
 
 pub calls : (kind : ℕ) (cs : List Call) (F : List ℕ) → All Timed ((byCalls rule (startRule kind) cs F) .records)
 unfolding called

@@ -37,22 +37,14 @@ use Rattle.mwd.specs.Mwd.{mwdMade, mwdPoint, mwdRule}
 use Rattle.dad.specs.Dad.{dadMade, dadPoint, dadBegun, dadScan, dadOnward, dadScanning}
 use Rattle.uv.specs.Uv.{uvMade, uvPoint, uvBegun, uvScan, uvLeft, uvScanning}
 use Rattle.array.specs.Array.{arrayMade, stored, arrayRule}
-use Rattle.times.specs.Times.{msTime, scanTime, stores, Splits, Carries, Timed}
+use Rattle.times.specs.Times.{msTime, scanTime, inMinutes, scanMinutes, HasTime, stores, Splits, Carries, Timed, Agrees}
 
--- a state's double time is its stored time: so from Open on
-abbrev pub Agrees : State → Type 0
-Agrees (Fid st) = Unit
-Agrees (Ms st) = st .«cur_time» ≡ minutes (double (st .«stored_time»))
-Agrees (Mwd st) = Unit
-Agrees (Dad st) = st .«cur_time» ≡ double (st .«stored_time»)
-Agrees (Uv st) = st .«cur_time» ≡ minutes (double (st .«stored_time»))
-Agrees (Array st) = Unit
-
--- what a record that is told makes of a stored time, whatever its value
-pub record Tells (st : State) (ms : ℕ) (t : Told) : Type 0 where
+-- what a record that is told makes of a stored time and of a double in minutes, whatever its value
+pub record Tells (st : State) (ms : ℕ) (clock : Float) (t : Told) : Type 0 where
   pub carries : (y : Float) → Carries (stores st) (t .makes .shows y) ms
   pub holds : (v : Sum Float) → storedOf (t .makes .then v) ≡ ms
   pub kind : (v : Sum Float) → stores (t .makes .then v) ≡ stores st
+  pub shows : (y : Float) → HasTime (t .makes .shows y) clock
   pub timed : Agrees st → (y : Float) → Timed (t .makes .shows y)
   pub agrees : Agrees st → (v : Sum Float) → Agrees (t .makes .then v)
 
@@ -64,28 +56,34 @@ whole : (x : Float) (ms : ℕ) → x ≡ double ms → minutes x ≡ minutes (do
 whole x ms e = ap minutes (e ∙ ap double (sym (splits ms .sum)))
 
 -- one of two rules, each with a time of its own
-either : {st : State} {s : List ℕ} (b : Bool) {m n : ℕ} {x y : Rule Told} → Leads (Tells st m) x s → Leads (Tells st n) y s → Leads (Tells st (cond b m n)) (cond b x y) s
+either : {st : State} {s : List ℕ} (b : Bool) {m n : ℕ} {c d : Float} {x y : Rule Told} → Leads (Tells st m c) x s → Leads (Tells st n d) y s → Leads (Tells st (cond b m n) (cond b c d)) (cond b x y) s
 either true p q = p
 either false p q = q
 
+either-head : {st : State} {s : List ℕ} (b : Bool) {m n : ℕ} {x y : Rule Told} → Leads (Tells st m (inMinutes m)) x s → Leads (Tells st n (inMinutes n)) y s → Leads (Tells st (cond b m n) (inMinutes (cond b m n))) (cond b x y) s
+either-head true p q = p
+either-head false p q = q
+
 -- records that come in scans
-in-scans : {st : State} (f : Scanning) (s : List ℕ) {m n : ℕ} → Leads (Tells st m) (f .scan) s → Leads (Tells st n) (f .point) s → Leads (Tells st (cond (eqb (f .due) 0) m n)) (scanning f) s
+in-scans : {st : State} (f : Scanning) (s : List ℕ) {m n : ℕ} {c d : Float} → Leads (Tells st m c) (f .scan) s → Leads (Tells st n d) (f .point) s →
+    Leads (Tells st (cond (eqb (f .due) 0) m n) (cond (eqb (f .due) 0) c d)) (scanning f) s
 unfolding scanning
 in-scans f s p q = leads-cond (f .done) (λ t. to-ends) (λ t. either (eqb (f .due) 0) p q)
 
 -- ---- MS
 
 module _ (st : ChemstationMsState) where
-  ms-told : (scans : Scans) (points : Points) (time : Float) (ms m : ℕ) (cs : List Change) → (Agrees (Ms st) → time ≡ minutes (double ms)) → Tells (Ms st) ms (told (msMade scans points time ms m) cs)
+  ms-told : (scans : Scans) (points : Points) (time : Float) (ms m : ℕ) (cs : List Change) → (Agrees (Ms st) → time ≡ minutes (double ms)) → Tells (Ms st) ms time (told (msMade scans points time ms m) cs)
   ms-told scans points time ms m cs h = record {
     carries = λ y. splits ms;
     holds = λ v. refl;
     kind = λ v. refl;
+    shows = λ y. refl;
     timed = λ a y. h a ∙ whole (double ms) ms refl;
     agrees = λ a v. h a;
   }
 
-  ms-point : (scans : Scans) (points : Points) (time : Float) (ms : ℕ) (s : List ℕ) → (Agrees (Ms st) → time ≡ minutes (double ms)) → Leads (Tells (Ms st) ms) (msPoint scans points time ms) s
+  ms-point : (scans : Scans) (points : Points) (time : Float) (ms : ℕ) (s : List ℕ) → (Agrees (Ms st) → time ≡ minutes (double ms)) → Leads (Tells (Ms st) ms time) (msPoint scans points time ms) s
   unfolding msPoint
   ms-point scans points time ms s h =
       leads-number 2 be _ s (leads-number 2 be _ (drop 2 s) (leads-cond (eqb (points .0) 1)
@@ -95,29 +93,30 @@ module _ (st : ChemstationMsState) where
   behind-empty : (s : List ℕ) → drop 10 (drop 12 (drop 4 (drop 2 s))) ≡ drop 28 s
   behind-empty s = rw (drop-drop 4 2 s, drop-drop 12 6 s, drop-drop 10 18 s)
 
-  ms-scans : (scans : ℕ) (s : List ℕ) → Leads (Tells (Ms st) (msTime scans s)) (msScans scans) s
+  ms-scans : (scans : ℕ) (s : List ℕ) → Leads (Tells (Ms st) (msTime scans s) (inMinutes (msTime scans s))) (msScans scans) s
   unfolding msScans
   ms-scans zero s = to-ends
   ms-scans (suc scans) s =
       leads-number 2 be _ s (leads-cond (ltb (be (take 2 s)) 14) (λ t. to-refuses)
-      (λ t. leads-number 4 be _ (drop 2 s) (leads-number 12 _ _ (drop 4 (drop 2 s)) (either (eqb ((be (take 2 s) - 14) / 2) 0)
+      (λ t. leads-number 4 be _ (drop 2 s) (leads-number 12 _ _ (drop 4 (drop 2 s)) (either-head (eqb ((be (take 2 s) - 14) / 2) 0)
       (leads-number 10 _ _ (drop 12 (drop 4 (drop 2 s))) (rw (behind-empty s) (ms-scans scans (drop 28 s))))
       (ms-point _ _ _ _ _ (λ a. refl))))))
 
 -- ---- DAD
 
 module _ (st : ChemstationDadState) where
-  dad-point : (here : ChemstationDadState) (first : List Change) (s : List ℕ) → (Agrees (Dad st) → Agrees (Dad here)) → Leads (Tells (Dad st) (here .«stored_time»)) (dadPoint here first) s
+  dad-point : (here : ChemstationDadState) (first : List Change) (s : List ℕ) → (Agrees (Dad st) → Agrees (Dad here)) → Leads (Tells (Dad st) (here .«stored_time») (minutes (here .«cur_time»))) (dadPoint here first) s
   unfolding dadPoint
   dad-point here first s h = leads-map _ (delta le) s λ d. record {
     carries = λ y. splits (here .«stored_time»);
     holds = λ v. refl;
     kind = λ v. refl;
+    shows = λ y. refl;
     timed = λ a y. whole (here .«cur_time») (here .«stored_time») (h a);
     agrees = λ a v. h a;
   }
 
-  dad-scan : (scans : Scans) (s : List ℕ) → Leads (Tells (Dad st) (le (part 4 4 s))) (dadScan scans) s
+  dad-scan : (scans : Scans) (s : List ℕ) → Leads (Tells (Dad st) (le (part 4 4 s)) (inMinutes (le (part 4 4 s)))) (dadScan scans) s
   unfolding dadScan
   dad-scan scans s =
       leads-number 2 le _ s (leads-cond (eqb (le (take 2 s)) 67)
@@ -128,17 +127,18 @@ module _ (st : ChemstationDadState) where
 -- ---- UV
 
 module _ (st : ChemstationUvState) where
-  uv-point : (here : ChemstationUvState) (scans : Scans) (first : List Change) (s : List ℕ) → (Agrees (Uv st) → Agrees (Uv here)) → Leads (Tells (Uv st) (here .«stored_time»)) (uvPoint here scans first) s
+  uv-point : (here : ChemstationUvState) (scans : Scans) (first : List Change) (s : List ℕ) → (Agrees (Uv st) → Agrees (Uv here)) → Leads (Tells (Uv st) (here .«stored_time») (here .«cur_time»)) (uvPoint here scans first) s
   unfolding uvPoint
   uv-point here scans first s h = leads-map _ (delta le) s λ d. record {
     carries = λ y. splits (here .«stored_time»);
     holds = λ v. refl;
     kind = λ v. refl;
+    shows = λ y. refl;
     timed = λ a y. h a ∙ whole (double (here .«stored_time»)) (here .«stored_time») refl;
     agrees = λ a v. h a;
   }
 
-  uv-scan : (s : List ℕ) → Leads (Tells (Uv st) (le (part 4 4 s))) (uvScan st) s
+  uv-scan : (s : List ℕ) → Leads (Tells (Uv st) (le (part 4 4 s)) (inMinutes (le (part 4 4 s)))) (uvScan st) s
   unfolding uvScan
   uv-scan s =
       let range = drop 4 (drop 4 s) in
@@ -149,35 +149,35 @@ module _ (st : ChemstationUvState) where
 
 -- ---- the kinds that store no time
 
-fid-tells : (st : ChemstationFidState) (s : List ℕ) → Leads (Tells (Fid st) 0) (fidRule st) s
+fid-tells : (st : ChemstationFidState) (s : List ℕ) → Leads (Tells (Fid st) 0 (double 0)) (fidRule st) s
 unfolding fidRule
 fid-tells st s =
     leads-may-end (leads-number 2 _ _ s (leads-cond (isInt (signed be (take 2 s)) (pos 32767))
     (λ t. leads-number 4 _ _ _ (leads-number 2 be _ _ (to-gives (told-so _))))
     (λ t. to-gives (told-so _))))
   where
-    told-so : (cs : List Change) → Tells (Fid st) 0 (told (fidMade st) cs)
-    told-so cs = record { carries = λ y. tt; holds = λ v. refl; kind = λ v. refl; timed = λ a y. tt; agrees = λ a v. tt }
+    told-so : (cs : List Change) → Tells (Fid st) 0 (double 0) (told (fidMade st) cs)
+    told-so cs = record { carries = λ y. tt; holds = λ v. refl; kind = λ v. refl; shows = λ y. tt; timed = λ a y. tt; agrees = λ a v. tt }
 
-mwd-tells : (st : ChemstationMwdState) (s : List ℕ) → Leads (Tells (Mwd st) 0) (mwdRule st) s
+mwd-tells : (st : ChemstationMwdState) (s : List ℕ) → Leads (Tells (Mwd st) 0 (double 0)) (mwdRule st) s
 unfolding mwdRule mwdPoint
 mwd-tells st s =
     leads-may-end (leads-cond (eqb (st .«n_wvs_left» .0) 0)
     (λ t. leads-number 2 be _ s (leads-cond (eqb (be (take 2 s) % 4096) 0) (λ t. to-ends) (λ t. here _ _)))
     (λ t. here _ s))
   where
-    here : (points : Points) (bs : List ℕ) → Leads (Tells (Mwd st) 0) (mwdPoint st points) bs
-    here points bs = leads-map _ (delta be) bs λ d. record { carries = λ y. tt; holds = λ v. refl; kind = λ v. refl; timed = λ a y. tt; agrees = λ a v. tt }
+    here : (points : Points) (bs : List ℕ) → Leads (Tells (Mwd st) 0 (double 0)) (mwdPoint st points) bs
+    here points bs = leads-map _ (delta be) bs λ d. record { carries = λ y. tt; holds = λ v. refl; kind = λ v. refl; shows = λ y. tt; timed = λ a y. tt; agrees = λ a v. tt }
 
-array-tells : (st : ChemstationArrayState) (s : List ℕ) → Leads (Tells (Array st) 0) (arrayRule st) s
+array-tells : (st : ChemstationArrayState) (s : List ℕ) → Leads (Tells (Array st) 0 (double 0)) (arrayRule st) s
 unfolding arrayRule
 array-tells st s =
     leads-cond (eqb (st .«n_scans_left» .0) 0) (λ t. to-ends)
-    (λ t. leads-map _ (stored (st .«record_type»)) s λ x. record { carries = λ y. tt; holds = λ v. refl; kind = λ v. refl; timed = λ a y. tt; agrees = λ a v. tt })
+    (λ t. leads-map _ (stored (st .«record_type»)) s λ x. record { carries = λ y. tt; holds = λ v. refl; kind = λ v. refl; shows = λ y. tt; timed = λ a y. tt; agrees = λ a v. tt })
 
 -- ---- all of them
 
-pub tells : (st : State) (s : List ℕ) → Leads (Tells st (scanTime st s)) (fields st) s
+pub tells : (st : State) (s : List ℕ) → Leads (Tells st (scanTime st s) (scanMinutes st s)) (fields st) s
 tells (Fid st) s = fid-tells st s
 tells (Ms st) s = in-scans (msScanning st) s (ms-scans st (st .«n_scans_left» .0) s) (ms-point st _ _ _ _ s (λ a. a))
 tells (Mwd st) s = mwd-tells st s

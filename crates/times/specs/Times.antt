@@ -1,12 +1,12 @@
 -- Request 2: the stored time of a record's scan, in whole minutes and the milliseconds left over; and the columns that have them.
 use mathlib.Core.Path.{_≡_}
 use mathlib.Core.Bool.{Bool, true, false, cond}
-use mathlib.Core.List.{List, [], _∷_, _++_}
+use mathlib.Core.List.{List, [], _∷_, _++_, map}
 use Prim.Native.Nat.{ℕ, zero, suc, _+_, _-_, _*_, _/_, _^_, _≤_, _<_}
 use lib.Dec.{eqb}
 use lib.IntN.{pos}
 use lib.ListN.{length, drop, replicate}
-use lib.Ieee.{binary64}
+use lib.Ieee.{Float, binary64, div}
 use Rattle.rules.specs.Rule.{refused, got, read}
 use Rattle.rules.specs.Calls.{Item, stopped, nothing, readUpTo, Call, byCalls}
 use Rattle.common.specs.Bytes.{be, le, part}
@@ -20,7 +20,9 @@ use Rattle.streams.specs.declared.Record.{Record}
 use Rattle.streams.specs.declared.Record.the-variants.{Trace, Mass, Spectrum}
 use Rattle.chemstation.specs.Next.{rule}
 use Rattle.opening.specs.Opening.{msBegins, begins, startRule}
-use Rattle.reader.specs.Columns.{rowOf, Columns, columns, columnsWith, fillOf}
+use denote.Triple.Both.{Both}
+use Rattle.reader.specs.Columns.{rowOf, Columns, columns, columnsWith, fillOf, Fills}
+use Rattle.reader.specs.declared.Filled.{Filled}
 use Rattle.reader.specs.declared.Row.{Row}
 
 -- ---- the stored time of the scan that the next point belongs to, in milliseconds
@@ -48,6 +50,26 @@ stores (Dad st) = true
 stores (Uv st) = true
 stores (Array st) = false
 
+-- ---- the double time beside it
+
+-- a stored time in minutes: '/ 60000', rounded once
+abbrev pub inMinutes : ℕ → Float
+inMinutes ms = div binary64 (double ms) (double 60000)
+
+-- within a scan the double that the state holds, of DAD / 60000, whatever stored time it holds; at the start of one the u32 in its head; not looked at for other kinds
+abbrev pub scanMinutes : State → List ℕ → Float
+scanMinutes (Fid st) s = double 0
+scanMinutes (Ms st) s = cond (eqb (st .«n_mzs_left» .0) 0) (inMinutes (msTime (st .«n_scans_left» .0) s)) (st .«cur_time»)
+scanMinutes (Mwd st) s = double 0
+scanMinutes (Dad st) s = cond (eqb (st .«n_bytes_left» .0) 0) (inMinutes (le (part 4 4 s))) (div binary64 (st .«cur_time») (double 60000))
+scanMinutes (Uv st) s = cond (eqb (st .«n_wvs_left» .0) 0) (inMinutes (le (part 4 4 s))) (st .«cur_time»)
+scanMinutes (Array st) s = double 0
+
+abbrev pub HasTime : Record → Float → Type 0
+HasTime (Trace t u s) x = Unit
+HasTime (Mass t m u s min left) x = t ≡ x
+HasTime (Spectrum t w u s min left) x = t ≡ x
+
 -- ---- what a record carries
 
 -- 'the leftover below 60,000 and minutes × 60,000 + leftover equal to it'
@@ -69,19 +91,29 @@ abbrev pub CarriesRow : Bool → Row → ℕ → Type 0
 CarriesRow true r ms = Splits (r .minutes) (r .leftover) ms
 CarriesRow false r ms = (r .minutes ≡ 0) × (r .leftover ≡ 0)
 
--- a record from a state and bytes: what it carries, and what the state after it holds
+-- a record from a state and bytes: what it carries, its double, and what the state after it holds
 pub record Stamped (st : State) (s : List ℕ) (x : Item State Record) : Type 0 where
   pub carries : Carries (stores st) (x .shows) (scanTime st s)
+  pub shows : HasTime (x .shows) (scanMinutes st s)
   pub holds : storedOf (x .after) ≡ scanTime st s
   pub kind : stores (x .after) ≡ stores st
 
--- ---- the double beside it
+-- ---- the two together
 
--- the double is the stored time / 60000, rounded once
+-- a record's double is its stored time / 60000, rounded once
 abbrev pub Timed : Record → Type 0
 Timed (Trace t u s) = Unit
-Timed (Mass t m u s min left) = t ≡ minutes (double (min * 60000 + left))
-Timed (Spectrum t w u s min left) = t ≡ minutes (double (min * 60000 + left))
+Timed (Mass t m u s min left) = t ≡ inMinutes (min * 60000 + left)
+Timed (Spectrum t w u s min left) = t ≡ inMinutes (min * 60000 + left)
+
+-- a state whose double is its stored time; DAD holds milliseconds
+abbrev pub Agrees : State → Type 0
+Agrees (Fid st) = Unit
+Agrees (Ms st) = st .«cur_time» ≡ inMinutes (st .«stored_time»)
+Agrees (Mwd st) = Unit
+Agrees (Dad st) = st .«cur_time» ≡ double (st .«stored_time»)
+Agrees (Uv st) = st .«cur_time» ≡ inMinutes (st .«stored_time»)
+Agrees (Array st) = Unit
 
 abbrev pub All : (Record → Type 0) → List Record → Type 0
 All P [] = Unit
@@ -112,12 +144,21 @@ shownColumns = columnsWith ((readUpTo rule true 3 (msBegins (record { 0 = 2 })) 
 pub record StoredTimes : Type 0 where
   -- every record, from every state
   pub next : (st : State) (last : Bool) (s : List ℕ) (x : Item State Record) (n : ℕ) → read last (rule st) s ≡ got x n → Stamped st s x
-  -- from Open on, however the calls come, told that the bytes are the last or not
+  -- Open sets the integer to 0, and the double with it; a record keeps the two together, told last or not
+  pub opens : (kind : ℕ) (x : Header) → (storedOf (begins kind x) ≡ 0) × Agrees (begins kind x)
+  pub keeps : (st : State) (last : Bool) (s : List ℕ) (x : Item State Record) (n : ℕ) → read last (rule st) s ≡ got x n → Agrees st → Timed (x .shows) × Agrees (x .after)
+  -- what the contract of Fill columns says of its answer and its columns is what stands below of `fillOf` and `columnsWith`
+  pub fills : (st : State) (s : List ℕ) (last : Bool) (r : Filled) (c : Both Columns Columns) → Fills st s last r c →
+      let g = fillOf st s last (c .entry) in
+      (r .count ≡ length (g .records)) × ((r .state ≡ g .state) × (c .exit ≡ columnsWith (g .records) (c .entry)))
+  -- so from Open on, whatever the calls that are told that their bytes are not the last, and in one reading told either
   pub calls : (kind : ℕ) (cs : List Call) (F : List ℕ) → All Timed ((byCalls rule (startRule kind) cs F) .records)
   pub reads : (kind : ℕ) (x : Header) (last : Bool) (n : ℕ) (s : List ℕ) → All Timed ((readUpTo rule last n (begins kind x) s) .records)
   -- a u32 is a double without rounding, so that the division's is the one
   pub exact : (ms : ℕ) → ms < 2 ^ 32 → IsWhole binary64 (double ms) (pos ms)
-  -- what a record carries stands in its row
+  -- what a record carries stands in its row, and the rows stand in the two columns
+  pub columns : (rs : List Record) (old : Columns) →
+      ((columnsWith rs old) .minutes ≡ map (λ r. (rowOf r) .minutes) rs ++ drop (length rs) (old .minutes)) × ((columnsWith rs old) .leftover ≡ map (λ r. (rowOf r) .leftover) rs ++ drop (length rs) (old .leftover))
   pub rows : (b : Bool) (r : Record) (ms : ℕ) → Carries b r ms → CarriesRow b (rowOf r) ms
   -- 'kinds without a stored time write 0 in both', up to the count
   pub zeros : (st : State) → stores st ≡ false → (last : Bool) (n : ℕ) (s : List ℕ) (old : Columns) →
