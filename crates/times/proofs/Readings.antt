@@ -1,5 +1,5 @@
 -- Records one behind the other: each has its scan's time, and its double agrees from Open on.
-use mathlib.Core.Path.{_≡_, refl, sym, ap, _∙_, subst}
+use mathlib.Core.Path.{_≡_, refl, ap, ap₂, _∙_, subst}
 use mathlib.Core.Bool.{Bool, true, false, cond}
 use mathlib.Core.List.{List, [], _∷_, _++_, map}
 use Prim.Native.Nat.{ℕ, zero, suc}
@@ -8,7 +8,7 @@ use lib.ListN.{length, drop, replicate}
 use lib.Ieee.{div, ofInt}
 use Rattle.rules.specs.Rule.{Read, got, stops, read, mapRead}
 use Rattle.rules.specs.Calls.{Item, Reading, oneRecord, goOn, readUpTo, Call, next, fill, fillUnequal, call, allRecords, called, opening, byCalls}
-use Rattle.rules.proofs.Laws.{read-map, got≢stops}
+use Rattle.rules.proofs.Laws.{read-map}
 use Rattle.common.proofs.Every.{Gets, leads}
 use Rattle.floats.specs.Doubles.{double, minutes}
 use Rattle.metadata.specs.Metadata.{Header, openRule}
@@ -21,7 +21,9 @@ use Rattle.chemstation.specs.Next.{fields, rule}
 use Rattle.opening.specs.Opening.{begins, startRule}
 use Rattle.reader.specs.Columns.{rowOf, Columns, columnsWith}
 use Rattle.times.specs.Times.{scanTime, scanMinutes, stores, Carries, Stamped, Timed, Agrees, All}
+use Rattle.reader.specs.declared.Row.{Row}
 use Rattle.times.proofs.Told.{Tells, tells}
+use Rattle.times.proofs.Widths.{rows}
 
 -- ---- one record
 
@@ -98,21 +100,22 @@ zero-minutes : double 0 ≡ minutes (double 0)
 unfolding div ofInt
 zero-minutes = refl
 
-by-kind : (b : Bool) (st other : State) → Agrees st → Agrees other → Agrees (cond b st other)
+abbrev AtOpen : State → Type 0
+AtOpen st = (storedOf st ≡ 0) × Agrees st
+
+by-kind : (b : Bool) (st other : State) → AtOpen st → AtOpen other → AtOpen (cond b st other)
 by-kind true st other p q = p
 by-kind false st other p q = q
 
-pub begun : (kind : ℕ) (x : Header) → Agrees (begins kind x)
+pub begun : (kind : ℕ) (x : Header) → AtOpen (begins kind x)
 unfolding begins
-begun kind x = by-kind (eqb kind 1) _ _ tt (by-kind (eqb kind 2) _ _ zero-minutes (by-kind (eqb kind 3) _ _ tt (by-kind (eqb kind 4) _ _ refl (by-kind (eqb kind 5) _ _ zero-minutes tt))))
-
-none-stored : (b : Bool) (st other : State) → storedOf st ≡ 0 → storedOf other ≡ 0 → storedOf (cond b st other) ≡ 0
-none-stored true st other p q = p
-none-stored false st other p q = q
-
-pub opens : (kind : ℕ) (x : Header) → storedOf (begins kind x) ≡ 0
-unfolding begins
-opens kind x = none-stored (eqb kind 1) _ _ refl (none-stored (eqb kind 2) _ _ refl (none-stored (eqb kind 3) _ _ refl (none-stored (eqb kind 4) _ _ refl (none-stored (eqb kind 5) _ _ refl refl))))
+begun kind x =
+    by-kind (eqb kind 1) _ _ (refl, tt)
+    (by-kind (eqb kind 2) _ _ (refl, zero-minutes)
+    (by-kind (eqb kind 3) _ _ (refl, tt)
+    (by-kind (eqb kind 4) _ _ (refl, refl)
+    (by-kind (eqb kind 5) _ _ (refl, zero-minutes)
+    (refl, tt)))))
 
 pub calls : (kind : ℕ) (cs : List Call) (F : List ℕ) → All Timed ((byCalls rule (startRule kind) cs F) .records)
 unfolding called
@@ -120,7 +123,7 @@ calls kind cs F = rw (read-map false (begins kind) (openRule kind) F) (go (read 
   where
     go : (x : Read Header) → All Timed ((opening F (called rule cs) (mapRead (begins kind) x)) .records)
     go (stops z) = tt
-    go (got x n) = all-calls cs (begins kind x) (drop n F) (begun kind x)
+    go (got x n) = all-calls cs (begins kind x) (drop n F) (begun kind x .1)
 
 -- ---- kinds that store no time
 
@@ -144,22 +147,17 @@ bares last (suc n) st s e = go (λ st bs. bares last n st bs) (read last (rule s
     go onward (stops z) p = tt
     go onward (got x k) p = (bare-carries (stores st) (x .shows) _ e (p .0 .carries), onward (x .after) (drop k s) (p .0 .kind ∙ e))
 
-no-minutes : (rs : List Record) → All Bare rs → map (λ r. (rowOf r) .minutes) rs ≡ replicate (length rs) 0
-no-minutes [] p = refl
-no-minutes (Trace t u s ∷ rs) p = ap (λ l. 0 ∷ l) (no-minutes rs (p .1))
-no-minutes (Mass t m u s min left ∷ rs) p = absurd (p .0)
-no-minutes (Spectrum t w u s min left ∷ rs) p = absurd (p .0)
-
-no-leftover : (rs : List Record) → All Bare rs → map (λ r. (rowOf r) .leftover) rs ≡ replicate (length rs) 0
-no-leftover [] p = refl
-no-leftover (Trace t u s ∷ rs) p = ap (λ l. 0 ∷ l) (no-leftover rs (p .1))
-no-leftover (Mass t m u s min left ∷ rs) p = absurd (p .0)
-no-leftover (Spectrum t w u s min left ∷ rs) p = absurd (p .0)
+-- of either column
+zero-column : (f : Row → ℕ) → ((r : Record) → Bare r → f (rowOf r) ≡ 0) → (rs : List Record) → All Bare rs → map (λ r. f (rowOf r)) rs ≡ replicate (length rs) 0
+zero-column f h [] p = refl
+zero-column f h (r ∷ rs) p = ap₂ (λ x l. x ∷ l) (h r (p .0)) (zero-column f h rs (p .1))
 
 pub zeros : (st : State) → stores st ≡ false → (last : Bool) (n : ℕ) (s : List ℕ) (old : Columns) →
     let rs = (readUpTo rule last n st s) .records in
     ((columnsWith rs old) .minutes ≡ replicate (length rs) 0 ++ drop (length rs) (old .minutes)) × ((columnsWith rs old) .leftover ≡ replicate (length rs) 0 ++ drop (length rs) (old .leftover))
 zeros st e last n s old =
     let rs = (readUpTo rule last n st s) .records in
-    let p = bares last n st s e in
-    (ap (λ l. l ++ drop (length rs) (old .minutes)) (no-minutes rs p), ap (λ l. l ++ drop (length rs) (old .leftover)) (no-leftover rs p))
+    let p = bares last n st s e in (
+      ap (λ l. l ++ drop (length rs) (old .minutes)) (zero-column (λ r. r .minutes) (λ r c. rows false r 0 c .0) rs p),
+      ap (λ l. l ++ drop (length rs) (old .leftover)) (zero-column (λ r. r .leftover) (λ r c. rows false r 0 c .1) rs p),
+    )

@@ -1,8 +1,8 @@
 -- What the fields of a record tell of its scan's stored time, by the bytes that are there.
-use mathlib.Core.Path.{_≡_, refl, sym, ap, _∙_, subst}
+use mathlib.Core.Path.{_≡_, refl, sym, ap, _∙_}
 use mathlib.Core.Bool.{Bool, true, false, cond}
-use mathlib.Core.List.{List, [], _∷_}
-use Prim.Native.Nat.{ℕ, zero, suc, _+_, _-_, _*_, _/_, _%_, _<_}
+use mathlib.Core.List.{List, []}
+use Prim.Native.Nat.{ℕ, zero, suc, _+_, _-_, _*_, _/_, _%_}
 use native.Mathlib.Omega.{arith}
 use lib.Dec.{eqb, ltb}
 use lib.IntN.{pos}
@@ -24,8 +24,6 @@ use Rattle.streams.specs.declared.ChemstationMwdState.{ChemstationMwdState}
 use Rattle.streams.specs.declared.ChemstationDadState.{ChemstationDadState}
 use Rattle.streams.specs.declared.ChemstationUvState.{ChemstationUvState}
 use Rattle.streams.specs.declared.ChemstationArrayState.{ChemstationArrayState}
-use Rattle.streams.specs.declared.ChemstationArrayRecordType.{ChemstationArrayRecordType}
-use Rattle.streams.specs.declared.ChemstationArrayRecordType.the-variants.{Float32Array, Float64Array}
 use Rattle.streams.specs.declared.Scans.{Scans}
 use Rattle.streams.specs.declared.Points.{Points}
 use Rattle.streams.specs.declared.State.{State}
@@ -33,10 +31,10 @@ use Rattle.streams.specs.declared.State.the-variants.{Fid, Ms, Mwd, Dad, Uv, Ar
 use Rattle.chemstation.specs.Next.{fields}
 use Rattle.fid.specs.Fid.{fidMade, fidRule}
 use Rattle.ms.specs.Ms.{msMade, msPoint, msScans, msScanning}
-use Rattle.mwd.specs.Mwd.{mwdMade, mwdPoint, mwdRule}
-use Rattle.dad.specs.Dad.{dadMade, dadPoint, dadBegun, dadScan, dadOnward, dadScanning}
-use Rattle.uv.specs.Uv.{uvMade, uvPoint, uvBegun, uvScan, uvLeft, uvScanning}
-use Rattle.array.specs.Array.{arrayMade, stored, arrayRule}
+use Rattle.mwd.specs.Mwd.{mwdPoint, mwdRule}
+use Rattle.dad.specs.Dad.{dadPoint, dadBegun, dadScan, dadOnward, dadScanning}
+use Rattle.uv.specs.Uv.{uvPoint, uvBegun, uvScan, uvLeft, uvScanning}
+use Rattle.array.specs.Array.{stored, arrayRule}
 use Rattle.times.specs.Times.{msTime, scanTime, inMinutes, scanMinutes, HasTime, stores, Splits, Carries, Timed, Agrees}
 
 -- what a record that is told makes of a stored time and of a double in minutes, whatever its value

@@ -2,7 +2,7 @@
 use mathlib.Core.Path.{_≡_}
 use mathlib.Core.Bool.{Bool, true, false, cond}
 use mathlib.Core.List.{List, [], _∷_, _++_, map}
-use Prim.Native.Nat.{ℕ, zero, suc, _+_, _-_, _*_, _/_, _^_, _≤_, _<_}
+use Prim.Native.Nat.{ℕ, zero, suc, _+_, _-_, _*_, _/_, _^_, _<_}
 use lib.Dec.{eqb}
 use lib.IntN.{pos}
 use lib.ListN.{length, drop, replicate}
@@ -10,7 +10,7 @@ use lib.Ieee.{Float, binary64, div}
 use Rattle.rules.specs.Rule.{refused, got, read}
 use Rattle.rules.specs.Calls.{Item, stopped, nothing, readUpTo, Call, byCalls}
 use Rattle.common.specs.Bytes.{be, le, part}
-use Rattle.floats.specs.Doubles.{double, minutes}
+use Rattle.floats.specs.Doubles.{double}
 use Rattle.floats.specs.Wholes.{IsWhole}
 use Rattle.metadata.specs.Metadata.{Header}
 use Rattle.streams.specs.Next.{storedOf}

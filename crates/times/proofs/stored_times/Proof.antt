@@ -1,6 +1,6 @@
 -- The laws, cited.
 use mathlib.Core.Path.{refl}
-use Rattle.times.proofs.Readings.{stamped, keeps, begun, opens, reads, calls, zeros}
+use Rattle.times.proofs.Readings.{stamped, keeps, begun, reads, calls, zeros}
 use Rattle.times.proofs.Widths.{equal, unequal, unwritten, exact, rows, shown}
 use Rattle.times.proofs.stored_times.Statement.{statement}
 use Rattle.times.proofs.stored_times.Tie as tie
@@ -8,11 +8,11 @@ use Rattle.times.proofs.stored_times.Tie as tie
 returns : tie.Need-returns
 returns c = record {
   next = stamped;
-  opens = λ kind x. (opens kind x, begun kind x);
+  opens = begun;
   keeps = keeps;
   fills = λ st s last r c f. (f .count, (f .state, f .columns));
   calls = calls;
-  reads = λ kind x last n s. reads last n _ s (begun kind x) .timed;
+  reads = λ kind x last n s. reads last n _ s (begun kind x .1) .timed;
   exact = exact;
   columns = λ rs old. (refl, refl);
   rows = rows;
