@@ -82,6 +82,9 @@ enum chemstation_text_number {
     CHEMSTATION_RUN_DATE = 8
 };
 
+/* Bytes that are enough for the eight texts of any run: eight times 255 units of UTF-16, each at most three bytes of UTF-8. */
+enum { CHEMSTATION_TEXTS_ROOM = 6120 };
+
 /* Opens a run, given the first bytes of its file, and whether the file ends with them. No header is longer than 20,000 bytes.
  *
  * GIVEN: `header` and `corrections` hold what the places above name. The records begin header[CHEMSTATION_SIZE] bytes into the
@@ -98,6 +101,18 @@ uint8_t chemstation_open(uint8_t kind, const uint8_t *bytes, size_t length, bool
  * A refusal (1 to 10, 14, 15 where the text is longer than `room`, 16): nothing is written. */
 uint8_t chemstation_text(uint8_t kind, uint8_t number, const uint8_t *bytes, size_t length, uint8_t *text, size_t room,
                          size_t *text_length);
+
+/* Fetches all eight texts at once, in UTF-8: the run is opened once. The bytes are a file's, at least its whole header; they are taken
+ * as the last.
+ *
+ * GIVEN: the texts stand one behind the other from the start of `texts`, in the order of their numbers. Text i + 1 is what
+ * chemstation_text gives for number i + 1; it begins at texts[starts[i]] and is lengths[i] bytes long; no zero byte ends it. So starts[0]
+ * is 0 and starts[i + 1] is starts[i] + lengths[i]: an empty text, or one that the edition lacks, has length 0 and the start of the
+ * next. (These are places in `texts`; those of chemstation_open are places in the header.) The rest of `texts` is as it was.
+ * CHEMSTATION_TEXTS_ROOM bytes are enough for every run.
+ * A refusal (1 to 10, 14, 15 where the eight together are longer than `room`): nothing is written. */
+uint8_t chemstation_texts(uint8_t kind, const uint8_t *bytes, size_t length, uint8_t *texts, size_t room, size_t starts[8],
+                          size_t lengths[8]);
 
 /* Reads records into six columns of one length, given the state, the bytes behind those consumed so far, and whether the file
  * ends with them. Record i is time[i], axis[i], unscaled[i], scaled[i], minutes[i], leftover[i]: minutes; m/z for MS, nanometres for

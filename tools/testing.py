@@ -155,6 +155,21 @@ def with_sum(kind, log):
     return "".join([*lines[:-1], f"t {total}\n", lines[-1]])
 
 
+# ---- texts
+
+TEXTS = ["sample", "description", "operator", "instrument", "method", "signal name", "y units", "run date"]
+
+# Where the texts stand in edition 81, the one that has all eight, and in 179, by docs/FORMAT.md, 4.3. They do not overlap as long
+# as none is long: in 81 the instrument has 19 bytes, the method 15 and the units 3.
+TEXT_PLACES = {81: (24, 86, 148, 208, 228, 596, 244, 178), 179: (858, None, 1880, 2492, 2574, 4213, 4172, 2391)}
+
+
+def titled(*texts, kind=1, edition=81):
+    """A header with these texts, in the order of their numbers."""
+    form, size = (samples.pascal, 1024) if edition == 81 else (samples.wide, 5120)
+    return plain(kind, size, edition=edition, fields=[(at, form(text)) for at, text in zip(TEXT_PLACES[edition], texts) if at])
+
+
 # ---- stored times
 
 # Times as they are stored, in milliseconds, and their whole minutes and leftover milliseconds, by hand.

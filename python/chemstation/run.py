@@ -8,7 +8,7 @@ from chemstation.columns import Reading
 from chemstation.library import GIVEN, library
 
 TEXTS = ["sample", "description", "operator", "instrument", "method", "signal_name", "y_units", "run_date"]
-ROOM = 1024  # bytes, enough for every text
+ROOM = 6120  # bytes, enough for the eight texts of any run
 
 
 def held(source):
@@ -25,9 +25,32 @@ def held(source):
 
 
 def taken(answer):
-    """An answer of Open or of Fetch a text: refused, or all is well."""
+    """An answer of Open or of a fetch of texts: refused, or all is well."""
     if answer != GIVEN:
         raise Refused(answer)
+
+
+def byte_of(kind):
+    """A kind as the library takes it, in a byte; no kind is above 6."""
+    return kind if 0 <= kind < 256 else 0
+
+
+def pointer(memory):
+    return byref(c_ubyte.from_buffer(memory))
+
+
+def texts_in(memory, length, kind):
+    """The eight texts by name, by one call."""
+    texts, starts, lengths = (c_ubyte * ROOM)(), (c_size_t * 8)(), (c_size_t * 8)()
+    taken(library().chemstation_texts(byte_of(kind), pointer(memory), length, texts, ROOM, starts, lengths))
+    written = memoryview(texts)
+    return {name: bytes(written[start : start + count]).decode("utf-8") for name, start, count in zip(TEXTS, starts, lengths)}
+
+
+def texts(source, kind):
+    """The eight texts of a run's header by name, from a file's name or its bytes, which need not go beyond the header; no record is
+    read. Refused where the bytes are no run of this kind."""
+    return texts_in(*held(source), kind_number(kind))
 
 
 class Run:
@@ -39,22 +62,13 @@ class Run:
         self._memory, self.length = held(source)
         header, corrections, places = (c_size_t * 5)(), (c_double * 4)(), (c_size_t * 8)
         self._state, self._columns = ((c_double * 6)(), (c_size_t * 4)(), (c_uint32 * 1)()), None
-        number = kind if 0 <= kind < 256 else 0  # the library takes a byte; no kind is above 6
-        texts = places(), places()
-        taken(library().chemstation_open(number, self._bytes(), self.length, True, header, corrections, *texts, *self._state))
+        at = places(), places()
+        taken(library().chemstation_open(byte_of(kind), pointer(self._memory), self.length, True, header, corrections, *at, *self._state))
         self.kind, self.kind_name, self.axis_name = kind, KINDS[kind], AXES.get(kind)
         self.edition, self.size, self.sequence, self.vial, self.replicate = header
         self.start, self.end, self.offset, self.multiplier = corrections
-        self.texts = {name: self._text(number) for number, name in enumerate(TEXTS, 1)}
+        self.texts = texts_in(self._memory, self.size, kind)
         vars(self).update(self.texts)
-
-    def _bytes(self):
-        return byref(c_ubyte.from_buffer(self._memory))
-
-    def _text(self, number):
-        text, length = (c_ubyte * ROOM)(), c_size_t()
-        taken(library().chemstation_text(self.kind, number, self._bytes(), self.size, text, ROOM, byref(length)))
-        return bytes(text[: length.value]).decode("utf-8")
 
     def columns(self):
         """All records as columns, read by one call the first time: a Columns."""

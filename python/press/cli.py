@@ -16,7 +16,7 @@ import chemstation
 from chemstation.answers import kind_number, kinds_in_words
 from press import advice
 
-SUBCOMMANDS = ["show", "table", "sum", "plot", "volume"]
+SUBCOMMANDS = ["show", "table", "sum", "texts", "plot", "volume"]
 KINDS_HELP = f"the kind of the run, by number or name: {kinds_in_words()}; the file does not say it"
 STATUS_HELP = (
     "Status: 0 the run closed with 0; 1 another answer closed it (docs/ANSWERS.md), or the output could not be written; "
@@ -54,10 +54,20 @@ def kind(word):
         raise argparse.ArgumentTypeError(str(error)) from None
 
 
+def add_kind(parser):
+    parser.add_argument("kind", metavar="KIND", type=kind, help=KINDS_HELP)
+
+
 def add_run(parser):
     """The two words that name a run."""
-    parser.add_argument("kind", metavar="KIND", type=kind, help=KINDS_HELP)
+    add_kind(parser)
     parser.add_argument("file", metavar="FILE", help="the run file")
+
+
+def add_form(parser):
+    """Text or CSV, and where it goes."""
+    parser.add_argument("--csv", action="store_true", help="comma-separated values in place of text")
+    parser.add_argument("-o", "--output", metavar="OUT", help="write to the file OUT, which is put in place when it is whole")
 
 
 def why_not(path):
@@ -69,18 +79,29 @@ def why_not(path):
     return None if os.access(path, os.R_OK) else "is not readable"
 
 
-def opened(arguments):
-    """The run that `add_run`'s two words name."""
-    reason = why_not(arguments.file)
+def given(reader, file, kind):
+    """What a function of the module gives of a file and a kind; of a refused one, what its name tells is said."""
+    reason = why_not(file)
     if reason:
-        raise GiveUp(f"{arguments.file}: {reason}")
+        raise GiveUp(f"{file}: {reason}")
     try:
-        return chemstation.open(arguments.file, arguments.kind)
+        return reader(file, kind)
     except chemstation.Refused:
-        advise(arguments.file, advice.of_name(arguments.kind, arguments.file))
+        advise(file, advice.of_name(kind, file))
         raise
     except OSError as error:
-        raise GiveUp(f"{arguments.file}: {error.strerror}") from error
+        raise GiveUp(f"{file}: {error.strerror}") from error
+
+
+def opened(arguments):
+    """The run that `add_run`'s two words name."""
+    return given(chemstation.open, arguments.file, arguments.kind)
+
+
+def keep_apart(output, files):
+    """No output takes the place of a run file."""
+    if output and os.path.exists(output) and any(os.path.exists(file) and os.path.samefile(output, file) for file in files):
+        raise GiveUp(f"{output}: is the run file itself")
 
 
 def closed(arguments, answer):
@@ -121,7 +142,8 @@ def output(path):
 def parser():
     whole = argparse.ArgumentParser(
         prog="press",
-        description="Reads runs of Agilent ChemStation, by the proved library: headers, tables, sums, pictures and volumes of runs.",
+        description="Reads runs of Agilent ChemStation, by the proved library: headers, tables, sums, texts, pictures and volumes "
+                    "of runs.",
         epilog=f"KIND is {KINDS_HELP}. `press SUBCOMMAND --help` has the rest.",
     )
     subparsers = whole.add_subparsers(metavar="SUBCOMMAND", required=True)

@@ -24,8 +24,13 @@ def minutes(time):
     return f"{time:.10g} minutes"
 
 
+def texts(named):
+    """The texts of a header, as pairs of a name and a text."""
+    return [(name.replace("_", " "), plain(text)) for name, text in named.items()]
+
+
 def header(run):
-    """What the header says, as pairs of a name and a text."""
+    """What the header says, as such pairs."""
     return [
         ("kind", f"{run.kind} {run.kind_name}"),
         ("edition", str(run.edition)),
@@ -37,7 +42,7 @@ def header(run):
         ("end", minutes(run.end)),
         ("offset", str(run.offset)),
         ("multiplier", str(run.multiplier)),
-        *((name.replace("_", " "), plain(text)) for name, text in run.texts.items()),
+        *texts(run.texts),
     ]
 
 

@@ -1,6 +1,5 @@
 """`press table`: a run as text or CSV."""
 import csv
-import os
 
 from chemstation.answers import TIMED
 from press import advice, cli, show
@@ -18,8 +17,7 @@ DESCRIPTION = (
 def add(subparsers):
     parser = cli.added(subparsers, "table", run, HELP, DESCRIPTION)
     cli.add_run(parser)
-    parser.add_argument("--csv", action="store_true", help="comma-separated values in place of text")
-    parser.add_argument("-o", "--output", metavar="OUT", help="write to the file OUT, which is put in place when it is whole")
+    cli.add_form(parser)
 
 
 def named(opened):
@@ -51,8 +49,7 @@ def as_text(opened, out):
 
 def run(arguments):
     opened = cli.opened(arguments)
-    if arguments.output and os.path.exists(arguments.output) and os.path.samefile(arguments.output, arguments.file):
-        raise cli.GiveUp(f"{arguments.output}: is the run file itself")
+    cli.keep_apart(arguments.output, [arguments.file])
     with cli.output(arguments.output) as out:
         (as_csv if arguments.csv else as_text)(opened, out)
     cli.advise(arguments.file, advice.of_run(opened, arguments.file))

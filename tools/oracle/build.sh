@@ -27,8 +27,9 @@ while read -r _ file; do cp "$original/$file" "$build/$file"; done < "$here/orig
 
 # Stubs for what the nine files name and are not: the root, the buffer, the other parsers.
 cp "$here/stubs/Cargo.toml" "$build/entab/"
-cp "$here/stubs/lib.rs" "$here/stubs/main.rs" "$here/stubs/buffer.rs" "$here/driver.rs" "$here/fill.rs" "$src/"
+cp "$here/stubs/lib.rs" "$here/stubs/main.rs" "$here/stubs/buffer.rs" "$here/driver.rs" "$here/fill.rs" "$here/fetch.rs" "$src/"
 cp "$here/stubs/fill.rs" "$src/bin_fill.rs"
+cp "$here/stubs/fetch.rs" "$src/bin_fetch.rs"
 for parser in fasta fastq flow inficon sam thermo tsv tsv_inference; do : > "$src/parsers/$parser.rs"; done
 
 cat > "$build/.cargo/config.toml" <<END

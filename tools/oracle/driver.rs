@@ -449,7 +449,7 @@ fn description(header: &[u8], out: &mut Out) -> Answer {
 
 /// The original keeps the run date as a date. Its text is what the original reads as the sample when the date's field is
 /// moved there: both fields have one form and, in old editions, one width.
-fn run_date_text(header: &[u8]) -> String {
+pub(crate) fn run_date_text(header: &[u8]) -> String {
     let mut moved = header.to_vec();
     if edition(header) <= 102 {
         moved.copy_within(178..178 + 60, 24);

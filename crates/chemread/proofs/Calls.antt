@@ -4,11 +4,13 @@ use mathlib.Core.Bool.{Bool, false≢true}
 use mathlib.Core.List.{List, [], _∷_}
 use Prim.Native.Nat.{ℕ}
 use lib.IntN.{ℤ}
+use denote.Triple.Both.{Both}
 use Rattle.rules.specs.Rule.{Read, got, stops, read, mapRead}
 use Rattle.rules.proofs.Laws.{got≢stops}
 use Rattle.error.specs.Number.{stopOf, stopNumber, closingNumber}
 use Rattle.metadata.specs.Metadata.{Header, openRule}
 use Rattle.fetch.specs.Fetch.{outcomeOf, Fetches}
+use Rattle.texts.specs.Eight.{Texts, FetchesAll}
 use Rattle.metadata.specs.declared.ChemstationMetadata.{ChemstationMetadata}
 use Rattle.fetch.specs.declared.Fetched.{Fetched}
 use Rattle.streams.specs.declared.State.{State}
@@ -25,7 +27,7 @@ use Rattle.streams.specs.Next.{storedOf}
 use Rattle.states.specs.State.{numbersOf, countsOf, stateOf}
 use Rattle.states.proofs.States.{keeps-states}
 use Rattle.chemread.specs.Answers.{outcomeNumber}
-use Rattle.chemread.specs.Lent.{Run, openedAs, OpensInto, sizeAfter, FetchesInto, Filling, FillsInto, SumsInto}
+use Rattle.chemread.specs.Lent.{Run, openedAs, OpensInto, sizeAfter, FetchesInto, TextsInto, Filling, FillsInto, SumsInto}
 
 -- ---- Open
 
@@ -55,6 +57,9 @@ pub opens-into : {kind : ℕ} {last : Bool} {s : List ℕ} {r : OpenedRun} (a : 
 opens-into {r = r} a old o e = opened-into _ _ (r .metadata) a old (ap startRead (sym e) ∙ state-by o) (ap (saysRead (r .metadata)) (sym e) ∙ says-by o)
 
 -- ---- Fetch a text
+
+pub texts-into : (x : Read (List (List ℕ))) (f g : Fetched) (m : Both Texts Texts) → FetchesAll f m x → f ≡ g → TextsInto x (outcomeNumber (outcomeOf g)) m
+texts-into x f g m h e = record { answer = ap outcomeNumber (ap outcomeOf (sym e) ∙ h .answer); memory = h .memory }
 
 pub fetches-into : (x : Read (List ℕ)) (f g : Fetched) (old new : List ℕ) (n : ℕ) → Fetches f old new x → f ≡ g →
     FetchesInto x (outcomeNumber (outcomeOf g)) (record { entry = record { bytes = old; size = n }; exit = record { bytes = new; size = sizeAfter (outcomeOf g) n } })

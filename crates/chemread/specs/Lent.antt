@@ -8,10 +8,11 @@ use lib.IntN.{ℤ}
 use lib.Ieee.{Float}
 use denote.Ref.{now}
 use denote.Triple.Both.{Both}
-use Rattle.rules.specs.Rule.{Read, got, stops}
+use Rattle.rules.specs.Rule.{Read, got, stops, mapRead}
 use Rattle.rules.specs.Calls.{Reading}
 use Rattle.metadata.specs.Metadata.{Header}
 use Rattle.fetch.specs.Fetch.{Outcome, wrote, refuse, fetched, heldAfter}
+use Rattle.texts.specs.Eight.{joined, Texts, textsAfter}
 use Rattle.metadata.specs.declared.ChemstationMetadata.{ChemstationMetadata}
 use Rattle.streams.specs.declared.State.{State}
 use Rattle.streams.specs.declared.Record.{Record}
@@ -94,6 +95,13 @@ textAfter x old = record { bytes = heldAfter (old .bytes) x; size = sizeAfter (f
 pub record FetchesInto (x : Read (List ℕ)) (r : ℕ) (m : Both Text Text) : Type 0 where
   pub answer : r ≡ outcomeNumber (fetched (length (m .entry .bytes)) x)
   pub memory : m .exit ≡ textAfter x (m .entry)
+
+-- ---- all texts at once
+
+-- the answer r and the lent memory m, by what the rule reads
+pub record TextsInto (x : Read (List (List ℕ))) (r : ℕ) (m : Both Texts Texts) : Type 0 where
+  pub answer : r ≡ outcomeNumber (fetched (length (m .entry .bytes)) (mapRead joined x))
+  pub memory : m .exit ≡ textsAfter (m .entry) x
 
 -- ---- Fill columns
 

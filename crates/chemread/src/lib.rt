@@ -1,4 +1,4 @@
-// Open, Fetch a text, Fill columns and the sum of a column for C: include/chemstation.h declares them.
+// Open, Fetch a text, all texts at once, Fill columns and the sum of a column for C: include/chemstation.h declares them.
 use error::Refusal;
 use error::Stopped;
 use fetch::Fetched;
@@ -13,8 +13,9 @@ ghost use Rattle.rules.specs.Rule.{read};
 ghost use Rattle.error.specs.Number.{stopOf, stopNumber, closingNumber};
 ghost use Rattle.metadata.specs.Metadata.{openRule};
 ghost use Rattle.fetch.specs.Fetch.{fetchRule};
+ghost use Rattle.texts.specs.Eight.{eightRule, lentTexts};
 ghost use Rattle.reader.specs.Columns.{lentColumns, closingOf};
-ghost use Rattle.chemread.specs.Lent.{headerOf, correctionsOf, lentRun, OpensInto, lentText, FetchesInto, lentFilling, FillsInto, SumsInto};
+ghost use Rattle.chemread.specs.Lent.{headerOf, correctionsOf, lentRun, OpensInto, lentText, FetchesInto, TextsInto, lentFilling, FillsInto, SumsInto};
 ghost use Rattle.sums.specs.Sums.{totalFrom};
 ghost use Rattle.sums.specs.declared.Total.the-variants.{Amount};
 
@@ -128,6 +129,23 @@ pub extern "C" fn chemstation_text(
             *length = n;
             GIVEN
         }
+    }
+}
+
+// All eight texts, one behind the other in one buffer, from the bytes of a whole file. A refusal writes nothing.
+#[no_mangle]
+pub extern "C" fn chemstation_texts(
+    kind: u8,
+    s: &[u8],
+    out: &mut [u8],
+    starts: &mut [usize; 8],
+    lengths: &mut [usize; 8],
+) -> u8
+    ensures { λ r. ⌜ TextsInto (read true (eightRule kind) (now (s .entry))) r (lentTexts out starts lengths) ⌝ }
+{
+    match texts::fetch_texts(kind, s, out, starts, lengths) {
+        Fetched::Refused(r) => error::number_of(r),
+        Fetched::Text(_) => GIVEN,
     }
 }
 

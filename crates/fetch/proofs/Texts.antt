@@ -1,28 +1,27 @@
 -- What stands where a description says that a text does.
 use mathlib.Core.Path.{_≡_, refl, sym, ap, _∙_}
-use mathlib.Core.Bool.{false}
-use mathlib.Core.List.{List, [], _∷_}
-use Prim.Native.Nat.{ℕ, _+_, _-_, _*_, _≤_}
+use mathlib.Core.Bool.{true, false}
+use mathlib.Core.List.{List, []}
+use Prim.Native.Nat.{ℕ, _+_, _-_, _*_, _≤_, _<_}
 use native.Mathlib.Nat.{add-sub-cancel-left}
 use native.Mathlib.Omega.{arith}
 use mir.Syntax.{w8}
 use mir.Val.{Fits}
-use types.Run.{OneOf, miss}
-use denote.Enum.Declared.{tagOf}
-use lib.Dec.{eqb}
+use lib.Dec.{ltb, eqb}
 use lib.ListN.{length, getD, take, drop, length-take, length-drop}
 use lib.Seq.{drop-drop}
-use borrow.Author.Tests.{eqb-true, eqb-false}
+use borrow.Author.Tests.{eqb-true, eqb-false, leb-true, ltb-true, ltb-false}
 use Rattle.rules.specs.Rule.{gives}
 use Rattle.common.specs.Bytes.{part}
 use Rattle.agilent.proofs.HeaderLaws.{part-take}
-use Rattle.utf8.specs.Utf8.{decode}
-use Rattle.utf16.specs.Utf16.{utf8Of}
+use Rattle.utf8.specs.Utf8.{encodes, decode}
+use Rattle.utf16.specs.Utf16.{utf16, utf8Of}
 use Rattle.trim.specs.WhiteSpace.{trimmedOf}
 use Rattle.trim.specs.declared.Trimmed.{Trimmed}
 use Rattle.trim.specs.declared.Trimmed.the-variants.{NotUtf8, At}
 use borrow.Table.Steps.{cases as by}
 use Rattle.utf8.proofs.Decodes.{exactly}
+use Rattle.utf16.proofs.Units.{twice}
 use Rattle.trim.proofs.Stands.{stands-at, inside-bounds, holds-text}
 use Rattle.pascal.specs.declared.TextField.{TextField}
 use Rattle.pascal.specs.declared.TextField.the-variants.{Absent, Pascal, PascalToEnd, Utf16}
@@ -31,7 +30,7 @@ use Rattle.layouts.specs.Table.{fieldOf}
 use Rattle.pascal.specs.Texts.{Place, placeAt, trimmedFrom, pascal, textRule, reach}
 use Rattle.metadata.specs.Metadata.{metadataRule}
 use Rattle.fetch.specs.Fetch.{trimmedText, textOf}
-use Rattle.pascal.proofs.TextField.{the-type}
+use Rattle.layouts.proofs.Tables.{suits, field-suits}
 use Rattle.metadata.proofs.Orderly.{Orderly, giving, refusing, outcome, then, checked}
 use Rattle.metadata.proofs.HeaderReads.{placeOf, metadata-orderly}
 
@@ -79,15 +78,19 @@ asText (Pascal start width) bs = bs
 asText (PascalToEnd start) bs = bs
 asText (Utf16 start) bs = utf8Of bs
 
--- any field but UTF-16, as the code tells it
-abbrev pub Old : TextField → Type 0
-Old f = OneOf (0 ∷ 1 ∷ 2 ∷ []) (tagOf the-type f)
+-- old editions hold UTF-8, and new ones UTF-16; a text that an edition lacks is empty in both
+as-it-is : (f : TextField) (e : ℕ) (h bs : List ℕ) → e ≤ 102 → suits f e ≡ true → asText f bs ≡ textOf f h → bs ≡ textOf f h
+as-it-is Absent e h bs l s t = t
+as-it-is (Pascal start width) e h bs l s t = t
+as-it-is (PascalToEnd start) e h bs l s t = t
+as-it-is (Utf16 start) e h bs l s t = absurd (omega (arith, ltb-true 102 e s))
 
-as-it-is : (f : TextField) (bs : List ℕ) → Old f → bs ≡ asText f bs
-as-it-is Absent bs o = refl
-as-it-is (Pascal start width) bs o = refl
-as-it-is (PascalToEnd start) bs o = refl
-as-it-is (Utf16 start) bs o = absurd (miss (0 ∷ 1 ∷ 2 ∷ []) 3 tt o)
+as-units : (f : TextField) (e : ℕ) (h bs : List ℕ) → 102 < e → suits f e ≡ true → asText f bs ≡ textOf f h → utf8Of bs ≡ textOf f h
+unfolding textOf utf8Of utf16 encodes
+as-units Absent e h bs l s t = ap utf8Of t
+as-units (Pascal start width) e h bs l s t = absurd (omega (arith, leb-true e 102 s))
+as-units (PascalToEnd start) e h bs l s t = absurd (omega (arith, leb-true e 102 s))
+as-units (Utf16 start) e h bs l s t = t
 
 abbrev pub Found : TextField → List ℕ → Place → Type 0
 Found f h p = ((i : ℕ) → Fits w8 (getD h i 0)) → Holds h p (asText f) (textOf f h)
@@ -130,8 +133,15 @@ module _ (h : List ℕ) (d : ChemstationMetadata) (k : ℕ) (e : metadataRule h 
   taken : asText (fieldOf k (d .edition)) bytes ≡ textOf (fieldOf k (d .edition)) h
   taken = rw (add-sub-cancel-left (getD (d .«text_starts») k 0) (getD (d .«text_lengths») k 0)) (there .text)
 
-  pub new-text : {start : ℕ} → fieldOf k (d .edition) ≡ Utf16 start → utf8Of bytes ≡ textOf (fieldOf k (d .edition)) h
-  new-text q = sym (ap (λ f. asText f bytes) q) ∙ taken
+  pub new-text : 102 < d .edition → utf8Of bytes ≡ textOf (fieldOf k (d .edition)) h
+  new-text l = as-units (fieldOf k (d .edition)) (d .edition) h bytes l (field-suits k (d .edition)) taken
 
-  pub old-text : Old (fieldOf k (d .edition)) → bytes ≡ textOf (fieldOf k (d .edition)) h
-  old-text o = as-it-is (fieldOf k (d .edition)) bytes o ∙ taken
+  pub old-text : d .edition ≤ 102 → bytes ≡ textOf (fieldOf k (d .edition)) h
+  old-text l = as-it-is (fieldOf k (d .edition)) (d .edition) h bytes l (field-suits k (d .edition)) taken
+
+  -- no byte of a header makes more than two of a text
+  pub text-bounded : length (textOf (fieldOf k (d .edition)) h) ≤ 2 * getD (d .«text_lengths») k 0
+  text-bounded =
+      let n = length-take (getD (d .«text_starts») k 0 + getD (d .«text_lengths») k 0 - getD (d .«text_starts») k 0) (drop (getD (d .«text_starts») k 0) h) in
+      by (ltb 102 (d .edition)) (λ t. omega (arith, n, ap length (new-text (ltb-true 102 (d .edition) t)), twice bytes))
+      λ t. omega (arith, n, ap length (old-text (ltb-false 102 (d .edition) t)))

@@ -1,22 +1,21 @@
-// Fetch a text: its UTF-8, straight from the header's bytes to the lent buffer.
+// Fetch a text: its UTF-8, straight from the header's bytes to the lent buffer, through no other array.
 use error::Refusal;
 use error::Stopped;
-use layouts::field_in;
 use metadata::ChemstationMetadata;
 use metadata::Opened;
 use metadata::open_header;
-use pascal::TextField;
 use utf16::decode_utf16;
 use written::Written;
 use written::copy_text;
 ghost use mathlib.Core.Path.{_≡_};
 ghost use mathlib.Core.Bool.{true, _&&_};
 ghost use mathlib.Core.List.{List};
-ghost use Prim.Native.Nat.{ℕ, _<_};
+ghost use Prim.Native.Nat.{ℕ, _≤_, _<_};
 ghost use lib.Dec.{leb};
-ghost use lib.ListN.{length};
+ghost use lib.ListN.{length, getD};
 ghost use Rattle.rules.specs.Rule.{gives, finished, got, read};
 ghost use Rattle.error.specs.Number.{numberOf, stopOf};
+ghost use Rattle.utf16.specs.Utf16.{utf8Of};
 ghost use Rattle.written.specs.Written.{Puts};
 ghost use Rattle.layouts.specs.Table.{fieldOf};
 ghost use Rattle.metadata.specs.Metadata.{metadataRule};
@@ -40,7 +39,7 @@ fn in_range(most: u8, n: u8) -> bool
 }
 
 // A header that may not go on is refused: told last, a field that is cut is 14, and no header is 'finished'.
-fn refusal_of(z: Stopped) -> Refusal
+pub fn refusal_of(z: Stopped) -> Refusal
     requires { ⌜ ¬ (stopOf z ≡ finished) ⌝ }
     ensures { λ r. ⌜ numberOf r ≡ numberOfStop (stopOf z) ⌝ }
 {
@@ -61,20 +60,46 @@ fn answer_of(w: Written) -> Fetched
     }
 }
 
+// Where a text starts, by its number less one.
+fn start_of(d: ChemstationMetadata, k: usize) -> usize
+    requires { ⌜ k < 8 ⌝ }
+    ensures { λ r. ⌜ r ≡ getD (d .«text_starts») k 0 ⌝ }
+{
+    let starts = d.text_starts;
+    starts[k]
+}
+
+// Its length in the header, in bytes.
+pub fn length_of(d: ChemstationMetadata, k: usize) -> usize
+    requires { ⌜ k < 8 ⌝ }
+    ensures { λ r. ⌜ r ≡ getD (d .«text_lengths») k 0 ⌝ }
+{
+    let lengths = d.text_lengths;
+    lengths[k]
+}
+
+// The bytes of a text as they stand in the header h that says d, by the text's number less one.
+pub fn text_bytes(d: ChemstationMetadata, k: usize, h: &[u8]) -> &[u8]
+    requires { ⌜ (k < 8) × (metadataRule (now h) ≡ gives d) ⌝ }
+    ensures old { λ r. ⌜ (d .edition ≤ 102 → now r ≡ textOf (fieldOf k (d .edition)) (now (h .entry))) ⌝ }
+    ensures new { λ r. ⌜ (102 < d .edition → utf8Of (now r) ≡ textOf (fieldOf k (d .edition)) (now (h .entry))) ⌝ }
+{
+    let at = start_of(d, k);
+    let end = at + length_of(d, k);
+    &h[at..end]
+}
+
 // The text of a number less one, of a header h that says d.
 fn fetch_from(d: ChemstationMetadata, k: usize, h: &[u8], out: &mut [u8]) -> Fetched
     requires { ⌜ (k < 8) × (metadataRule (now h) ≡ gives d) ⌝ }
     ensures { λ r. ⌜ Fetches r (now (out .entry)) (now (out .exit)) (got (textOf (fieldOf k (d .edition)) (now (h .entry))) (length (now (h .entry)))) ⌝ }
 {
-    let starts = d.text_starts;
-    let lengths = d.text_lengths;
-    let at = starts[k];
-    let end = at + lengths[k];
-    let bytes = &h[at..end];
-    match field_in(d.edition, k) {
-        TextField::Utf16 { start: _ } => answer_of(decode_utf16(bytes, out)),
-        _ => answer_of(copy_text(bytes, out)),
+    let bytes = text_bytes(d, k, h);
+    // the edition tells the encoding; a text that it lacks is empty in both
+    if 102 < d.edition {
+        return answer_of(decode_utf16(bytes, out));
     }
+    answer_of(copy_text(bytes, out))
 }
 
 // A text by its number, from the bytes of a whole file.

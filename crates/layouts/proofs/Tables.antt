@@ -4,7 +4,7 @@ use mathlib.Core.Bool.{Bool, true, false, cond, _&&_, _||_, and-eq-true-iff, fal
 use mathlib.Core.List.{List, [], _∷_, map}
 use Prim.Native.Nat.{ℕ, zero, suc, _+_, _≤_, _<_}
 use native.Mathlib.Omega.{arith}
-use lib.Dec.{leb, eqb}
+use lib.Dec.{leb, ltb, eqb}
 use lib.ListN.{getD, List·getD-eq-default, List·getD-map}
 use borrow.Author.Tests.{ne-eqb, eqb-true, leb-true, leb-false}
 use borrow.Table.Steps.{cases as by-bool}
@@ -13,7 +13,7 @@ use Rattle.layouts.specs.Table.{Entry, among, look, texts, fieldOf, mini
 use Rattle.layouts.specs.Layouts.{editions, editionOf, startAt, widthAt, layoutOf, fieldBy}
 use Rattle.layouts.specs.declared.Clock.the-variants.{Nowhere}
 use Rattle.pascal.specs.declared.TextField.{TextField}
-use Rattle.pascal.specs.declared.TextField.the-variants.{Absent}
+use Rattle.pascal.specs.declared.TextField.the-variants.{Absent, Pascal, PascalToEnd, Utf16}
 
 -- ---- the law: lists that are computed to be equal are equal at each place
 
@@ -124,6 +124,24 @@ field-by k e h =
 pub field-none : (k e : ℕ) → 8 ≤ k → fieldOf k e ≡ Absent
 unfolding fieldOf texts
 field-none k e h = ap (λ t. look Absent t e) (List·getD-eq-default texts [] h)
+
+-- UTF-16 stands in new editions only, and UTF-8 in old ones
+abbrev pub suits : TextField → ℕ → Bool
+suits Absent e = true
+suits (Pascal start width) e = leb e 102
+suits (PascalToEnd start) e = leb e 102
+suits (Utf16 start) e = ltb 102 e
+
+field-of-edition : (k e : ℕ) → k < 8 → suits (fieldOf k e) e ≡ true
+unfolding fieldOf texts editions
+field-of-edition k e h =
+    let row : ℕ → ℕ → Bool = λ k e. suits (fieldOf k e) e in
+    by-bool (among editions e)
+    (same-among (row k) (λ _. true) editions (each 8 (λ k. map (row k) editions) (λ k. map (λ _. true) editions) refl k h) e)
+    λ n. ap (λ f. suits f e) (look-other e n Absent (getD texts k []) (each 8 (λ k. named (getD texts k [])) (λ k. true) refl k h))
+
+pub field-suits : (k e : ℕ) → suits (fieldOf k e) e ≡ true
+field-suits k e = by-bool (leb 8 k) (λ t. rw (field-none k e (leb-true 8 k t)) refl) (λ t. field-of-edition k e (leb-false 8 k t))
 
 -- a field lies within its edition's minimum
 lies-within : (k e : ℕ) → k < 8 → reach (fieldOf k e) ≤ look 0 minima e

@@ -1,6 +1,7 @@
 // What stands where in a header, by the edition.
 use pascal::TextField;
 ghost use mathlib.Core.Path.{_≡_};
+ghost use Prim.Native.Nat.{ℕ};
 ghost use Rattle.layouts.specs.Table.{fieldOf};
 ghost use Rattle.layouts.specs.Layouts.{layoutOf, fieldBy};
 
@@ -133,14 +134,13 @@ fn field_by(edition: u32, start: usize, width: usize) -> TextField
     TextField::Pascal { start, width }
 }
 
-// The field of a text, by its number less one.
-pub fn field_in(edition: u32, k: usize) -> TextField
-    ensures { λ r. ⌜ r ≡ fieldOf k edition ⌝ }
+// The field of a text, by its number less one, in the layout of an edition.
+pub fn field_in(layout: Layout, k: usize) -> TextField
+    ensures { λ r. ⌜ ((e : ℕ) → layout ≡ layoutOf e → r ≡ fieldOf k e) ⌝ }
 {
     if 7 < k {
         return TextField::Absent;
     }
-    let layout = layout_of(edition);
     let starts = layout.starts;
     field_by(layout.edition, starts[k], WIDTHS[k])
 }

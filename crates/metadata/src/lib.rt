@@ -15,6 +15,7 @@ use floats::f64_from_u16;
 use floats::minutes_of;
 use floats::scan_count;
 use layouts::Clock;
+use layouts::Layout;
 use layouts::field_in;
 use layouts::layout_of;
 use pascal::TextPlace;
@@ -27,6 +28,7 @@ ghost use Rattle.rules.specs.Rule.{stops, read};
 ghost use Rattle.error.specs.Number.{stopOf};
 ghost use Rattle.pascal.specs.Texts.{textRule, placeRule};
 ghost use Rattle.layouts.specs.Table.{look, minima, fieldOf};
+ghost use Rattle.layouts.specs.Layouts.{layoutOf};
 ghost use Rattle.metadata.specs.Metadata.{timeAt, doubleAt, describedBy, blank, stepOf, scansAt, afterDescription, afterBytes, openRule, Opens};
 ghost use Rattle.metadata.specs.Remaining.{afterMinimum, OpensWhole};
 
@@ -89,11 +91,16 @@ fn double_at(h: &[u8], at: usize, other: f64) -> f64
 // ---- the description
 
 // What a header says whose texts stand at these places.
-fn described(h: &[u8], edition: u32, starts: [usize; 8], lengths: [usize; 8]) -> ChemstationMetadata
-    requires { ⌜ (512 ≤ length (now h)) × (look 0 minima edition ≤ length (now h)) ⌝ }
+fn described(
+    h: &[u8],
+    edition: u32,
+    layout: Layout,
+    starts: [usize; 8],
+    lengths: [usize; 8],
+) -> ChemstationMetadata
+    requires { ⌜ (512 ≤ length (now h)) × (look 0 minima edition ≤ length (now h)) × (layout ≡ layoutOf edition) ⌝ }
     ensures { λ r. ⌜ r ≡ describedBy edition (now (h .entry)) starts lengths ⌝ }
 {
-    let layout = layout_of(edition);
     let clock = layout.clock;
     ChemstationMetadata {
         edition,
@@ -205,23 +212,23 @@ fn open_described(kind: u8, d: ChemstationMetadata, h: &[u8]) -> OpenedHeader
 }
 
 // Where a text stands, by its number less one.
-fn text_in(h: &[u8], edition: u32, k: usize) -> TextPlace
-    requires { ⌜ look 0 minima edition ≤ length (now h) ⌝ }
+fn text_in(h: &[u8], edition: u32, layout: Layout, k: usize) -> TextPlace
+    requires { ⌜ (look 0 minima edition ≤ length (now h)) × (layout ≡ layoutOf edition) ⌝ }
     ensures { λ r. ⌜ placeRule r ≡ textRule (fieldOf k edition) (now (h .entry)) ⌝ }
 {
-    text_place(h, field_in(edition, k))
+    text_place(h, field_in(layout, k))
 }
 
 // Opens a header as long as its edition asks: finds its texts in the order of their numbers, then describes it.
-fn open_texts(kind: u8, edition: u32, h: &[u8]) -> OpenedHeader
-    requires { ⌜ (512 ≤ length (now h)) × (look 0 minima edition ≤ length (now h)) ⌝ }
+fn open_texts(kind: u8, edition: u32, layout: Layout, h: &[u8]) -> OpenedHeader
+    requires { ⌜ (512 ≤ length (now h)) × (look 0 minima edition ≤ length (now h)) × (layout ≡ layoutOf edition) ⌝ }
     ensures { λ r. ⌜ OpensWhole (now (h .entry)) (afterMinimum kind edition (now (h .entry))) r ⌝ }
 {
     let mut starts = [0usize; 8];
     let mut lengths = [0usize; 8];
     let mut k: usize = 0;
     while k < 8 {
-        match text_in(h, edition, k) {
+        match text_in(h, edition, layout, k) {
             TextPlace::Refused(r) => return not_opened(Stopped::Refused(r)),
             TextPlace::At(start, bytes) => {
                 starts[k] = start;
@@ -230,7 +237,7 @@ fn open_texts(kind: u8, edition: u32, h: &[u8]) -> OpenedHeader
             }
         }
     }
-    open_described(kind, described(h, edition, starts, lengths), h)
+    open_described(kind, described(h, edition, layout, starts, lengths), h)
 }
 
 // Opens a whole header.
@@ -246,7 +253,7 @@ fn from_header(kind: u8, h: &[u8]) -> OpenedHeader
     if h.len() < layout.minimum {
         return not_opened(Stopped::Refused(Refusal::BelowEditionMinimum));
     }
-    open_texts(kind, edition, h)
+    open_texts(kind, edition, layout, h)
 }
 
 // Opens a run as far as its header goes: the description, the scans due and an array's time step.

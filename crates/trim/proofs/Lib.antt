@@ -1,2 +1,4 @@
 pub mod Trims
 pub mod Stands
+pub mod Spaces
+pub mod Ascii

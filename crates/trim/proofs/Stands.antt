@@ -25,7 +25,7 @@ start-is (c ∷ cs) = go (white c) (start-is cs)
     go true e = ap (λ (l : List ℕ). c ∷ l) e
     go false e = refl
 
-end-is : (cs : List ℕ) → (r : List ℕ) × (cs ≡ trimEnd cs ++ r)
+pub end-is : (cs : List ℕ) → (r : List ℕ) × (cs ≡ trimEnd cs ++ r)
 unfolding trimEnd
 end-is [] = ([], refl)
 end-is (c ∷ cs) = go (trimEnd cs) (end-is cs)

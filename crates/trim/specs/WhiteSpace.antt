@@ -2,10 +2,10 @@
 use mathlib.Core.Path.{_≡_}
 use mathlib.Core.Bool.{Bool, false, cond, _||_}
 use mathlib.Core.List.{List, [], _∷_, _++_}
-use Prim.Native.Nat.{ℕ}
-use lib.Dec.{eqb}
+use Prim.Native.Nat.{ℕ, suc, _+_, _-_}
+use lib.Dec.{leb, eqb}
 use lib.ListN.{length}
-use Rattle.utf8.specs.Utf8.{within, encodes, Utf8, Decoded, bad, text, decode}
+use Rattle.utf8.specs.Utf8.{within, encode, encodes, Utf8, Decoded, bad, text, decode}
 use Rattle.trim.specs.declared.Span.{Span}
 use Rattle.trim.specs.declared.Mark.{Mark}
 use Rattle.trim.specs.declared.Trimmed.{Trimmed}
@@ -71,7 +71,24 @@ abbrev pub Means : List ℕ → Trimmed → Type 0
 Means bs NotUtf8 = (cs : List ℕ) → Utf8 bs cs → ⊥
 Means bs (At p n) = Stands bs p n
 
--- ---- A step of the code: the scalar c ends at next, and m holds where white space has ended and where the last other scalar has.
+-- ---- Steps of the code.
+
+-- the scalar c ends at next, and m holds where white space has ended and where the last other scalar has.
 abbrev pub markOf : Mark → ℕ → ℕ → Mark
 markOf m c next =
     cond (white c) (cond (eqb (m .start) (m .end)) (record { start = next; end = next }) m) (record { start = m .start; end = next })
+
+-- the mark behind scalars that stand from a place on, with m before them
+abbrev pub marks : ℕ → Mark → List ℕ → Mark
+marks at m [] = m
+marks at m (c ∷ cs) = marks (at + length (encode c)) (markOf m c (at + length (encode c))) cs
+
+-- the answer, by what stands from a place on and the mark before it
+abbrev pub trimmedFrom : ℕ → Mark → Decoded → Trimmed
+trimmedFrom at m bad = NotUtf8
+trimmedFrom at m (text cs) = At (marks at m cs .start) (marks at m cs .end - marks at m cs .start)
+
+-- with how many bytes of ASCII bs begins
+abbrev pub asciiPrefix : List ℕ → ℕ
+asciiPrefix [] = 0
+asciiPrefix (b ∷ bs) = cond (leb b 0x7F) (suc (asciiPrefix bs)) 0

@@ -9,13 +9,14 @@ use native.Mathlib.Omega.{arith}
 use lib.Dec.{ltb}
 use lib.ListN.{length, drop, getD, length-append, length-drop}
 use lib.Seq.{drop-cons, paste}
-use borrow.Author.Tests.{ltb-true, ltb-false}
+use borrow.Author.Tests.{ltb-true, ltb-false, lt-leb}
 use borrow.Table.Steps.{cases as by}
 use Rattle.utf16.specs.declared.Piece.{Piece}
 use Rattle.utf8.specs.Utf8.{Scalar, Scalars, Utf8, encode, encodes, within}
 use Rattle.common.specs.Bytes.{AreBytes}
 use Rattle.utf16.specs.Utf16.{units, isHigh, isLow, alone, pair, utf16, utf8Of, pieceOf, unitAt, First}
 use Rattle.utf8.proofs.Cases.{never, both, first, second, least, most, inside}
+use Rattle.utf8.proofs.Decodes.{encode-length}
 use Rattle.written.proofs.Puts.{paste-next}
 
 -- ---- units
@@ -51,6 +52,9 @@ module _ (u v : ℕ) where
 
   pub pair-piece : isHigh u ≡ true → isLow v ≡ true → _≡_ {A = Piece} (record { scalar = pair u v; width = 4 }) (pieceOf u v)
   pair-piece i j = simp (both i j)
+
+  pub low-piece : u < 0xD800 → _≡_ {A = Piece} (record { scalar = u; width = 2 }) (pieceOf u v)
+  low-piece h = let none = lt-leb 0xD800 u h in let e : u ≡ alone u = sym (simp none) in lone-piece u e (simp none)
 
 -- ---- a piece is a scalar
 
@@ -204,3 +208,30 @@ module _ (s old new : List ℕ) (at n : ℕ) (g : Putting s old new at n) (fit :
           pass = passes s at n (g .pass) r f;
           bytes = p ∙ ap (λ (l : List ℕ). paste l n (encode (r .scalar)) (length (encode (r .scalar)))) (g .bytes) ∙ paste-next old (g .pass .done) (encode (r .scalar)) n (g .pass .count);
         })
+
+-- ---- how long the UTF-8 is at most
+
+few-scalars : (us : List ℕ) → length (utf16 us) ≤ length us
+unfolding utf16
+few-scalars [] = omega arith
+few-scalars (u ∷ []) = omega arith
+few-scalars (u ∷ v ∷ us) = go (isHigh u && isLow v) (few-scalars us) (few-scalars (v ∷ us))
+  where
+    go : (b : Bool) → length (utf16 us) ≤ length us → length (utf16 (v ∷ us)) ≤ length (v ∷ us)
+        → length (cond b (pair u v ∷ utf16 us) (alone u ∷ utf16 (v ∷ us))) ≤ length (u ∷ v ∷ us)
+    go true p q = omega arith
+    go false p q = omega arith
+
+few-bytes : (cs : List ℕ) → length (encodes cs) ≤ 4 * length cs
+unfolding encodes
+few-bytes [] = omega arith
+few-bytes (c ∷ cs) = omega (arith, few-bytes cs, encode-length c .1, length-append (encode c) (encodes cs))
+
+few-units : (bs : List ℕ) → 2 * length (units bs) ≤ length bs
+few-units [] = omega arith
+few-units (a ∷ []) = omega arith
+few-units (a ∷ b ∷ bs) = omega (arith, few-units bs)
+
+pub twice : (bs : List ℕ) → length (utf8Of bs) ≤ 2 * length bs
+unfolding utf8Of
+twice bs = omega (arith, few-bytes (utf16 (units bs)), few-scalars (units bs), few-units bs)

@@ -2,11 +2,11 @@
 use utf8::wide;
 use utf8::within;
 use written::Written;
-use written::put;
 ghost use mathlib.Core.Path.{_≡_};
 ghost use mathlib.Core.List.{List, _++_};
 ghost use Prim.Native.Nat.{ℕ, _+_, _≤_, _<_};
-ghost use lib.ListN.{length, take, drop};
+ghost use lib.Dec.{leb};
+ghost use lib.ListN.{length, drop};
 ghost use lib.Seq.{paste};
 ghost use Rattle.utf8.specs.Utf8.{encode, six, Utf8};
 ghost use Rattle.written.specs.Written.{written, Puts};
@@ -49,37 +49,31 @@ fn six(c: u32) -> u8
     byte(0x80 + c % 64)
 }
 
-// The UTF-8 of a scalar, and zeros behind it.
-fn encoded(c: u32) -> [u8; 4]
-    requires { ⌜ c < 0x110000 ⌝ }
-    ensures { λ r. ⌜ take (length (encode c)) r ≡ encode c ⌝ }
-{
-    if c < 0x80 {
-        return [byte(c), 0, 0, 0];
-    }
-    if c < 0x800 {
-        return [byte(0xC0 + c / 64), six(c), 0, 0];
-    }
-    if c < 0x10000 {
-        return [byte(0xE0 + c / 64 / 64), six(c / 64), six(c), 0];
-    }
-    [
-        byte(0xF0 + c / 64 / 64 / 64),
-        six(c / 64 / 64),
-        six(c / 64),
-        six(c),
-    ]
-}
-
 // Puts the UTF-8 of a scalar at a place, and answers the place behind it.
 fn put_scalar(out: &mut [u8], at: usize, c: u32) -> usize
     requires { ⌜ (c < 0x110000) × (at + length (encode c) ≤ length (now out)) ⌝ }
     ensures { λ r. ⌜ (r ≡ at + length (encode c)) × (now (out .exit) ≡ paste (now (out .entry)) at (encode c) (length (encode c))) ⌝ }
 {
-    let n = width_of(c);
-    let bytes = encoded(c);
-    put(&bytes, n, out, at);
-    at + n
+    if c < 0x80 {
+        out[at] = byte(c);
+        return at + 1;
+    }
+    if c < 0x800 {
+        out[at] = byte(0xC0 + c / 64);
+        out[at + 1] = six(c);
+        return at + 2;
+    }
+    if c < 0x10000 {
+        out[at] = byte(0xE0 + c / 64 / 64);
+        out[at + 1] = six(c / 64);
+        out[at + 2] = six(c);
+        return at + 3;
+    }
+    out[at] = byte(0xF0 + c / 64 / 64 / 64);
+    out[at + 1] = six(c / 64 / 64);
+    out[at + 2] = six(c / 64);
+    out[at + 3] = six(c);
+    at + 4
 }
 
 // ---- UTF-16
@@ -130,11 +124,19 @@ fn piece_at(s: &[u8], at: usize) -> Piece
     requires { ⌜ at + 2 ≤ length (now s) ⌝ }
     ensures { λ r. ⌜ First (now (s .entry)) at r ⌝ }
 {
-    piece_of(unit_at(s, at), unit_at(s, at + 2))
+    // below the surrogates the next unit is not looked at
+    let u = unit_at(s, at);
+    if u < 0xD800 {
+        return Piece {
+            scalar: u,
+            width: 2,
+        };
+    }
+    piece_of(u, unit_at(s, at + 2))
 }
 
 // How many bytes of UTF-8 the UTF-16 in s makes, if there is room for them.
-fn measured(s: &[u8], room: usize) -> Written
+pub fn measured(s: &[u8], room: usize) -> Written
     ensures { λ r. ⌜ r ≡ written room (utf8Of (now (s .entry))) ⌝ }
 {
     let mut at: usize = 0;
@@ -151,8 +153,21 @@ fn measured(s: &[u8], room: usize) -> Written
     Written::Bytes(n)
 }
 
+// Whether there is room for the UTF-8 of the UTF-16 in s. No byte makes more than two: only where the room is less is it measured.
+fn has_room(s: &[u8], room: usize) -> bool
+    ensures { λ r. ⌜ r ≡ leb (length (utf8Of (now (s .entry)))) room ⌝ }
+{
+    if s.len() <= room / 2 {
+        return true;
+    }
+    match measured(s, room) {
+        Written::Bytes(_) => true,
+        Written::NoRoom => false,
+    }
+}
+
 // Puts the UTF-8 of the UTF-16 in s at the start of out, and answers its length.
-fn recode(s: &[u8], out: &mut [u8]) -> usize
+pub fn recode(s: &[u8], out: &mut [u8]) -> usize
     requires { ⌜ length (utf8Of (now s)) ≤ length (now out) ⌝ }
     ensures { λ r. ⌜ (r ≡ length (utf8Of (now (s .entry)))) × (now (out .exit) ≡ utf8Of (now (s .entry)) ++ drop r (now (out .entry))) ⌝ }
 {
@@ -170,9 +185,9 @@ fn recode(s: &[u8], out: &mut [u8]) -> usize
 pub fn decode_utf16(src: &[u8], out: &mut [u8]) -> Written
     ensures { λ r. ⌜ Puts r (now (out .entry)) (now (out .exit)) (utf8Of (now (src .entry))) ⌝ }
 {
-    let Written::Bytes(_) = measured(src, out.len()) else {
+    if !has_room(src, out.len()) {
         return Written::NoRoom;
-    };
+    }
     Written::Bytes(recode(src, out))
 }
 

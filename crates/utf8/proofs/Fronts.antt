@@ -1,7 +1,7 @@
 -- The scalar at the front of some bytes: those are its UTF-8, and so it is found there.
 use mathlib.Core.Path.{_≡_, refl, sym, ap, _∙_}
 use mathlib.Core.Logic.{_⊎_, inl, inr, ⊎-elim}
-use mathlib.Core.Bool.{true, false≢true}
+use mathlib.Core.Bool.{true, false, false≢true}
 use mathlib.Core.List.{List, [], _∷_, _++_}
 use Prim.Native.Nat.{ℕ, _+_, _-_, _*_, _/_, _≤_, _<_}
 use native.Mathlib.Nat.{add-zero}
@@ -9,7 +9,7 @@ use native.Mathlib.Omega.{arith}
 use lib.Dec.{leb, ltb, eqb}
 use lib.ListN.{length, drop, getD, length-append}
 use lib.Seq.{getD-drop, drop-append-seam}
-use borrow.Author.Tests.{ltb-true, ltb-false, leb-true, leb-false, eqb-true, eqb-false, lt-ltb, le-ltb}
+use borrow.Author.Tests.{ltb-true, ltb-false, leb-true, leb-false, eqb-true, eqb-false, lt-ltb, le-ltb, ne-eqb}
 use borrow.Table.Steps.{cases as by}
 use Rattle.utf8.specs.declared.Front.the-variants.{IllFormed, Char}
 use Rattle.utf8.specs.Utf8.{Scalar, six, encode, low, high, second, follows, more, longer, frontOf, frontIn}
@@ -62,10 +62,35 @@ module _ (a b c d : ℕ) where
     front-4 : (u v x : ℕ) → u ≡ more (a - 0xF0) b → v ≡ more u c → x ≡ more v d → 0xF0 ≤ a → follows c ≡ true → follows d ≡ true → Char x 4 ≡ frontOf a b c d
     front-4 u v x i f e m t k = let l : 0xE0 ≤ a = omega arith in rw front-longer (simp (le-ltb _ _ l, t, le-ltb _ _ m, k, e, f, i))
 
+-- two bytes, whatever stands behind them
+module _ (a b : ℕ) (g : 0xC2 ≤ a) (h : a < 0xE0) where
+  second-2 : second a b ≡ follows b
+  second-2 =
+      let p : a ≡ 0xE0 → ⊥ = omega arith in
+      let q : a ≡ 0xF0 → ⊥ = omega arith in
+      let r : a ≡ 0xED → ⊥ = omega arith in
+      let t : a ≡ 0xF4 → ⊥ = omega arith in
+      simp (ne-eqb _ _ p, ne-eqb _ _ q, ne-eqb _ _ r, ne-eqb _ _ t)
+
+  pub two-ill : (c d : ℕ) → follows b ≡ false → IllFormed ≡ frontOf a b c d
+  unfolding frontOf
+  two-ill c d e =
+      let i : 0x80 ≤ a = omega arith in
+      let j : a ≤ 0xF4 = omega arith in
+      let k = second-2 ∙ e in
+      simp (le-ltb _ _ i, le-ltb _ _ g, le-ltb _ _ j, k)
+
+  pub two-char : (c d x : ℕ) → follows b ≡ true → x ≡ more (a - 0xC0) b → Char x 2 ≡ frontOf a b c d
+  two-char c d x e f = front-2 a b c d g (omega arith) (second-2 ∙ e) x f h
+
 -- a byte of the rest is one of the whole
 pub front-in : (s : List ℕ) (at a b c d : ℕ) → a ≡ getD s at 0 → b ≡ getD s (at + 1) 0 → c ≡ getD s (at + 2) 0 → d ≡ getD s (at + 3) 0
     → frontOf a b c d ≡ frontIn (drop at s)
 front-in s at a b c d p q r t = cc (getD-drop at s 0 0, getD-drop at s 1 0, getD-drop at s 2 0, getD-drop at s 3 0, add-zero at)
+
+-- a byte of ASCII, whatever stands behind it
+pub front-ascii : (s : List ℕ) (at a : ℕ) → a ≡ getD s at 0 → a < 0x80 → Char a 1 ≡ frontIn (drop at s)
+front-ascii s at a e h = front-1 a _ _ _ h ∙ front-in s at a _ _ _ e refl refl refl
 
 -- ---- the second byte, by the first: in numbers, what Table 3-7 asks
 

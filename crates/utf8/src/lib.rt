@@ -111,6 +111,17 @@ fn front_of(a: u32, b: u32, c: u32, d: u32) -> Front
     longer(a, b, c, d)
 }
 
+// A scalar of two bytes, whatever stands behind them.
+fn two(a: u32, b: u32) -> Front
+    requires { ⌜ (0xC2 ≤ a) × (a < 0xE0) ⌝ }
+    ensures { λ r. ⌜ ((c d : ℕ) → r ≡ frontOf a b c d) ⌝ }
+{
+    if !follows(b) {
+        return Front::IllFormed;
+    }
+    Front::Char(more(a - 0xC0, b), 2)
+}
+
 // The byte at a place, or 0 past the end.
 fn byte_at(s: &[u8], at: usize) -> u32
     ensures { λ r. ⌜ r ≡ getD (now (s .entry)) at 0 ⌝ }
@@ -123,12 +134,17 @@ pub fn front_at(s: &[u8], at: usize) -> Front
     requires { ⌜ at < length (now s) ⌝ }
     ensures { λ r. ⌜ r ≡ frontIn (drop at (now (s .entry))) ⌝ }
 {
-    front_of(
-        byte_at(s, at),
-        byte_at(s, at + 1),
-        byte_at(s, at + 2),
-        byte_at(s, at + 3),
-    )
+    // a byte of ASCII is a scalar by itself: no other is looked at
+    let a = wide(s[at]);
+    if a < 0x80 {
+        return Front::Char(a, 1);
+    }
+    // most other letters take two bytes: no third is looked at
+    let b = byte_at(s, at + 1);
+    if within(0xC2, 0xDF, a) {
+        return two(a, b);
+    }
+    front_of(a, b, byte_at(s, at + 2), byte_at(s, at + 3))
 }
 
 // What the definitions mean, in a contract so that it cannot be left out: the decoder finds the scalars exactly where the

@@ -53,6 +53,11 @@ module _ (room : ℕ) (text : List ℕ) where
       by (leb (length text) room) (λ t. leb-true _ _ t)
       λ t. let f : Bytes n ≡ NoRoom = simp t at e in absurd (false≢true cc)
 
+  pub length-for : (n : ℕ) → Bytes n ≡ written room text → n ≡ length text
+  length-for n e =
+      by (leb (length text) room) (λ t. let f : Bytes n ≡ Bytes (length text) = simp t at e in cc)
+      λ t. let f : Bytes n ≡ NoRoom = simp t at e in absurd (false≢true cc)
+
   pub no-room : NoRoom ≡ written room text → room < length text
   no-room e =
       by (leb (length text) room) (λ t. let f : NoRoom ≡ Bytes (length text) = simp t at e in absurd (false≢true cc))

@@ -14,6 +14,8 @@ pub mod buffer;
 pub mod driver;
 pub mod error;
 #[cfg(feature = "library")]
+pub mod fetch;
+#[cfg(feature = "library")]
 pub mod fill;
 pub mod parsers;
 pub mod record;

@@ -13,27 +13,25 @@ use Rattle.metadata.proofs.described.Tie as tie
 double-at-requires : tie.Need-double-at-requires
 unfolding offsets minima editions layoutOf
 double-at-requires c κs =
-    let l = c .before .before .before .before .before in
-    let s = l .before .before in
-    omega (arith, double-lies offsets refl refl (s .args .edition) _ (s .pre .0) (s .pre .1), ap (λ l. l .offset) (l .layout-of .ensures))
+    let s = c .before .before .before .before .before .before in
+    omega (arith, double-lies offsets refl refl (s .args .edition) _ (s .pre .0) (s .pre .1), ap (λ l. l .offset) (s .pre .2))
 
 double-at-requires-2 : tie.Need-double-at-requires-2
 unfolding multipliers minima editions layoutOf
 double-at-requires-2 c κs =
-    let l = c .before .before .before .before .before .before in
-    let s = l .before .before in
-    omega (arith, double-lies multipliers refl refl (s .args .edition) _ (s .pre .0) (s .pre .1), ap (λ l. l .mult) (l .layout-of .ensures))
+    let s = c .before .before .before .before .before .before .before in
+    omega (arith, double-lies multipliers refl refl (s .args .edition) _ (s .pre .0) (s .pre .1), ap (λ l. l .mult) (s .pre .2))
 
 returns : tie.Need-returns
 unfolding describedBy layoutOf ofInt ofBits
 returns c =
     let d = c .before .before in
     let n = d .before .before .before in
-    let l = n .before .before .layout-of .ensures in
+    let l = n .before .before .before .pre .2 in
     rw (c .double-at2 .ensures, c .before .double-at .ensures, d .time-at2 .ensures, d .before .time-at .ensures, d .before .before .be-u163 .ensures, n .be-u162 .ensures, n .before .be-u16 .ensures, l) refl
 
 pub described-spec : {M : Type 1} → statement M
 described-spec =
     tie.close
-    (tie.spec (λ c κs. search needs) (λ c κs. search needs) (λ c κs. search needs) (λ c κs. search needs) (λ c κs. search needs) (λ c κs. search needs)
+    (tie.spec (λ c κs. search needs) (λ c κs. search needs) (λ c κs. search needs) (λ c κs. search needs) (λ c κs. search needs)
     double-at-requires double-at-requires-2 returns)

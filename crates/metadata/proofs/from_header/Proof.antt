@@ -28,7 +28,10 @@ returns-2 c =
 
 open-texts-requires : tie.Need-open-texts-requires
 unfolding layoutOf
-open-texts-requires c κs = let m = ap (λ l. l .minimum) (c .before .before .before .before .layout-of .ensures) in (omega arith, omega arith)
+open-texts-requires c κs =
+    let e = c .before .before .before .before .layout-of .ensures in
+    let m = ap (λ l. l .minimum) e in
+    (omega arith, omega arith, e)
 
 returns-3 : tie.Need-returns-3
 unfolding layoutOf

@@ -12,10 +12,10 @@ use Rattle.metadata.proofs.open_texts.Statement.{statement}
 use Rattle.metadata.proofs.open_texts.Tie as tie
 
 abbrev Inv-loop : tie.InvT-loop
-Inv-loop kind edition h starts₀ lengths₀ k₀ starts lengths k = Gathered edition h k starts lengths
+Inv-loop kind edition layout h starts₀ lengths₀ k₀ starts lengths k = Gathered edition h k starts lengths
 
 abbrev μ-loop : tie.MeasureT-loop
-μ-loop kind edition h starts₀ lengths₀ k₀ starts lengths k = 8 - k
+μ-loop kind edition layout h starts₀ lengths₀ k₀ starts lengths k = 8 - k
 
 returns : tie.Need-returns Inv-loop μ-loop
 returns c =

@@ -1,82 +1,30 @@
--- The invariant says what is left to scan from here.
-use mathlib.Core.Path.{sym, _∙_, subst}
-use Prim.Native.Nat.{_+_, _-_}
+-- The ASCII at the start by its ends; the rest scalar by scalar.
+use mathlib.Core.Path.{_∙_}
 use native.Mathlib.Omega.{arith}
-use denote.Ref.{now}
-use lib.ListN.{length}
 use borrow.Author.Needs.{needs}
-use Rattle.trim.specs.declared.Mark.{Mark}
-use Rattle.trim.proofs.Trims.{Going, starts, ill, fits, moves, goes-on, ended}
+use Rattle.trim.proofs.Ascii.{prefix-length, starts-inside, ends-inside, from-prefix}
 use Rattle.trim.proofs.trim_utf8.Statement.{statement}
 use Rattle.trim.proofs.trim_utf8.Tie as tie
 
-abbrev Inv-loop : tie.InvT-loop
-Inv-loop s at₀ m₀ at m = Going s at m
+slice-aggregate-spaces-before : tie.Need-slice-aggregate-spaces-before
+slice-aggregate-spaces-before c = prefix-length _ _ (c .before .ascii-prefix .ensures)
 
-abbrev μ-loop : tie.MeasureT-loop
-μ-loop s at₀ m₀ at m = length s - at
+slice-aggregate-end-of-text : tie.Need-slice-aggregate-end-of-text
+slice-aggregate-end-of-text c = prefix-length _ _ (c .before .before .before .ascii-prefix .ensures)
 
-loop-holds : tie.Need-loop-holds Inv-loop μ-loop
-loop-holds c = starts _
+end-of-text-requires : tie.Need-end-of-text-requires
+end-of-text-requires c κs = starts-inside _ _ (c .before .spaces-before .ensures)
 
-front-at-requires : tie.Need-front-at-requires Inv-loop μ-loop
-front-at-requires c κs = search needs
+trim-from-requires : tie.Need-trim-from-requires
+trim-from-requires c κs =
+    (omega (arith, c .end-of-text .ensures), ends-inside _ _ _ _ (c .before .before .before .before .ascii-prefix .ensures) (c .before .before .spaces-before .ensures) (c .end-of-text .ensures))
 
-enum-told : tie.Need-enum-told Inv-loop μ-loop
-enum-told c = search needs
-
-returns : tie.Need-returns Inv-loop μ-loop
-returns c = ill _ _ _ (c .before .before .before .before .loop .inv) (c .before .before .before .loop-test .taken) (sym (c .before .before .front-at .ensures) ∙ c .enum-told .given .1)
-
-enum-known-c : tie.Need-enum-known-c Inv-loop μ-loop
-enum-known-c c = search needs
-
-add-at : tie.Need-add-at Inv-loop μ-loop
-add-at c =
-    let l = c .before .before .before .before .before .loop in
-    let x = c .before .c .given in
-    let e = sym (c .before .before .before .front-at .ensures) ∙ x .1 in
-    record { fits = omega (arith, fits _ _ _ (l .inv) (c .before .before .before .before .loop-test .taken) (x .0 .0) (x .0 .1 .0) e) }
-
-next-mark-requires : tie.Need-next-mark-requires Inv-loop μ-loop
-next-mark-requires c κs = search needs
-
-loop-less : tie.Need-loop-less Inv-loop μ-loop
-loop-less c =
-    let l = c .before .before .before .before .before .before .loop in
-    let h = c .before .before .before .before .before .loop-test .taken in
-    let x = c .before .before .c .given in
-    let e = sym (c .before .before .before .before .front-at .ensures) ∙ x .1 in
-    omega (arith, fits _ _ _ (l .inv) h (x .0 .0) (x .0 .1 .0) e, moves _ _ _ (l .inv) h (x .0 .0) (x .0 .1 .0) e)
-
-loop-again : tie.Need-loop-again Inv-loop μ-loop
-loop-again c =
-    let l = c .before .before .before .before .before .before .loop in
-    let x = c .before .before .c .given in
-    let e = sym (c .before .before .before .before .front-at .ensures) ∙ x .1 in
-    subst (λ (m : Mark). Going (now (c .before .before .before .before .before .before .before .before .args .s)) (l .at + x .0 .1 .0) m) (sym (c .next-mark .ensures))
-    (goes-on _ _ _ (l .inv) (c .before .before .before .before .before .loop-test .taken) (x .0 .0) (x .0 .1 .0) e)
-
-sub-count : tie.Need-sub-count Inv-loop μ-loop
-sub-count c = let g = c .before .before .loop .inv in omega (arith, g .order, g .past)
-
-returns-2 : tie.Need-returns-2 Inv-loop μ-loop
-returns-2 c = ended _ _ _ (c .before .before .loop .inv) (c .before .loop-test .left)
+returns : tie.Need-returns
+returns c =
+    let b = c .before in
+    c .trim-from .ensures
+    ∙ from-prefix _ _ _ _ (b .before .before .before .before .ascii-prefix .ensures) (b .before .before .spaces-before .ensures) (b .end-of-text .ensures)
 
 pub trim-utf8-spec : {M : Type 1} → statement M
 trim-utf8-spec =
-    tie.close
-    (tie.spec
-    Inv-loop
-    μ-loop
-    loop-holds
-    front-at-requires
-    enum-told
-    returns
-    enum-known-c
-    add-at
-    next-mark-requires
-    loop-less
-    loop-again
-    sub-count
-    returns-2)
+    tie.close (tie.spec (λ c κs. search needs) slice-aggregate-spaces-before (λ c κs. search needs) slice-aggregate-end-of-text end-of-text-requires trim-from-requires returns)

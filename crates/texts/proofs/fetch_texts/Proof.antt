@@ -1,0 +1,33 @@
+-- The header first; then the texts of one that was opened.
+use mathlib.Core.Path.{sym, ap, _∙_}
+use lib.Seq.{length-take-le}
+use borrow.Author.Needs.{needs}
+use Rattle.rules.specs.Rule.{mapRead}
+use Rattle.metadata.proofs.HeaderReads.{read-stopped, never-finished, read-opened, fits}
+use Rattle.texts.proofs.Laws.{eight-opens, all-stopped, all-text}
+use Rattle.texts.proofs.fetch_texts.Statement.{statement}
+use Rattle.texts.proofs.fetch_texts.Tie as tie
+
+refusal-of-requires : tie.Need-refusal-of-requires
+refusal-of-requires c κs = never-finished _ _ _ _ (c .before .before .before .open-header .ensures) (c .before .answer .given .1)
+
+slice-aggregate-fetch-all : tie.Need-slice-aggregate-fetch-all
+slice-aggregate-fetch-all c = let m = c .before .before .before in sym (length-take-le _ _ (fits _ _ _ _ (m .before .before .open-header .ensures) (m .answer2 .given .1) .1))
+
+fetch-all-requires : tie.Need-fetch-all-requires
+fetch-all-requires c κs = let m = c .before .before .before .before .before .before in fits _ _ _ _ (m .before .before .open-header .ensures) (m .answer2 .given .1) .0 .described
+
+returns : tie.Need-returns
+returns c =
+    let m = c .before .before in
+    all-stopped _ (eight-opens _ _ ∙ ap (mapRead _) (read-stopped _ _ _ _ (m .before .before .open-header .ensures) (m .answer .given .1))) (c .refusal-of .ensures)
+
+returns-2 : tie.Need-returns-2
+returns-2 c =
+    let m = c .before .before .before .before .before .before .before .before .before in
+    all-text (eight-opens _ _ ∙ ap (mapRead _) (read-opened _ _ _ _ (m .before .before .open-header .ensures) (m .answer2 .given .1))) (c .before .before .fetch-all .ensures)
+
+pub fetch-texts-spec : {M : Type 1} → statement M
+fetch-texts-spec =
+    tie.close
+    (tie.spec (λ c κs. search needs) (λ c. search needs) refusal-of-requires (λ c. search needs) slice-aggregate-fetch-all fetch-all-requires returns (λ c. search needs) returns-2)

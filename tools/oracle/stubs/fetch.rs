@@ -1,0 +1,6 @@
+fn main() {
+    if let Err(reason) = entab::fetch::run() {
+        eprintln!("fetch: {}", reason);
+        std::process::exit(2);
+    }
+}
