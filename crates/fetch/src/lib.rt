@@ -15,6 +15,7 @@ ghost use lib.Dec.{leb};
 ghost use lib.ListN.{length, getD};
 ghost use Rattle.rules.specs.Rule.{gives, finished, got, read};
 ghost use Rattle.error.specs.Number.{numberOf, stopOf};
+ghost use Rattle.common.specs.Bytes.{part};
 ghost use Rattle.utf16.specs.Utf16.{utf8Of};
 ghost use Rattle.written.specs.Written.{Puts};
 ghost use Rattle.layouts.specs.Table.{fieldOf};
@@ -83,6 +84,7 @@ pub fn text_bytes(d: ChemstationMetadata, k: usize, h: &[u8]) -> &[u8]
     requires { ⌜ (k < 8) × (metadataRule (now h) ≡ gives d) ⌝ }
     ensures old { λ r. ⌜ (d .edition ≤ 102 → now r ≡ textOf (fieldOf k (d .edition)) (now (h .entry))) ⌝ }
     ensures new { λ r. ⌜ (102 < d .edition → utf8Of (now r) ≡ textOf (fieldOf k (d .edition)) (now (h .entry))) ⌝ }
+    ensures there { λ r. ⌜ now r ≡ part (getD (d .«text_starts») k 0) (getD (d .«text_lengths») k 0) (now (h .entry)) ⌝ }
 {
     let at = start_of(d, k);
     let end = at + length_of(d, k);

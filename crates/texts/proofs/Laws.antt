@@ -6,7 +6,7 @@ use Prim.Native.Nat.{ℕ, _+_, _-_, _≤_, _<_}
 use native.Mathlib.Omega.{arith}
 use denote.Triple.Both.{Both}
 use lib.Dec.{leb}
-use lib.ListN.{length, take, drop, getD}
+use lib.ListN.{length, take, drop, getD, length-append}
 use lib.Seq.{take-at, drop-at}
 use borrow.Author.Tests.{le-leb, lt-leb, leb-true}
 use borrow.Table.Steps.{cases as by}
@@ -25,8 +25,8 @@ use Rattle.fetch.specs.declared.Fetched.the-variants.{Text, Refused}
 use Rattle.fetch.specs.Fetch.{textOf, fetchRule, Outcome, wrote, refuse, numberOfStop, outcomeOf, fetched, Fetches}
 use Rattle.fetch.proofs.Fetches.{textIn, fetch-unknown, fetch-opens}
 use Rattle.texts.specs.declared.Laid.{Laid}
-use Rattle.texts.specs.Eight.{textsOf, eightRule, joined, startsFrom, Texts, laidOut, textsAfter, textAt, FetchesAll, AsFetched, Lays}
-use Rattle.texts.proofs.Joins.{eight, text-of, before, grown, split-after, starts-at, length-at}
+use Rattle.texts.specs.Eight.{textsOf, eightRule, joined, startsFrom, Texts, laidOut, textsAfter, textAt, FetchesAll, AsFetched, Lies, Lays}
+use Rattle.texts.proofs.Joins.{eight, text-of, before, none-before, grown, all-before, split-after, starts-at, length-at}
 
 -- ---- the answers
 
@@ -94,12 +94,15 @@ fitted ts old r n a e =
     by (leb (length (joined ts)) (length (old .bytes))) (λ t. t)
     λ t. let b : outcomeOf r ≡ refuse 15 = simp t at a in absurd (false≢true cc)
 
+no-text : {c n : ℕ} → refuse c ≡ wrote n → ⊥
+no-text q = false≢true cc
+
 fifteen : (b : Bool) (n c : ℕ) → cond b (wrote n) (refuse 15) ≡ refuse c → c ≡ 15
 fifteen true n c e = absurd (false≢true cc)
 fifteen false n c e = cc
 
 module _ (r f : Fetched) (m : Both Texts Texts) (number : ℕ) (old new : List ℕ) (least : 1 ≤ number) (most : number ≤ 8) where
-  agrees-on : (x : Read Header) → FetchesAll r m (mapRead textsIn x) → Fetches f old new (mapRead (λ ts. getD ts (number - 1) []) (mapRead textsIn x)) → AsFetched r (m .exit) number f old new
+  agrees-on : (x : Read Header) → FetchesAll r m (mapRead textsIn x) → Fetches f old new (mapRead (λ ts. getD ts (number - 1) []) (mapRead textsIn x)) → AsFetched r m number f old new
   agrees-on (got x j) a b =
       let ts = textsIn x in
       record {
@@ -112,15 +115,68 @@ module _ (r f : Fetched) (m : Both Texts Texts) (number : ℕ) (old new : List �
       }
   agrees-on (stops z) a b =
       record {
-        given = λ n e. absurd (clash (sym (a .answer) ∙ e));
+        given = λ n e. absurd (no-text (sym (a .answer) ∙ e));
         refused = λ c k e. b .answer ∙ sym (a .answer) ∙ e;
       }
-    where
-      clash : {c n : ℕ} → refuse c ≡ wrote n → ⊥
-      clash q = false≢true cc
 
 pub agrees : (kind number : ℕ) (s : List ℕ) (r f : Fetched) (m : Both Texts Texts) (old new : List ℕ) → 1 ≤ number → number ≤ 8 → FetchesAll r m (read true (eightRule kind) s)
-    → Fetches f old new (read true (fetchRule kind number) s) → AsFetched r (m .exit) number f old new
+    → Fetches f old new (read true (fetchRule kind number) s) → AsFetched r m number f old new
 agrees kind number s r f m old new least most a b =
     let e = eight-opens kind s in
     agrees-on r f m number old new least most (read true (openRule kind) s) (rw e at a) (rw (reads-each kind number s least most ∙ ap (mapRead (λ ts. getD ts (number - 1) [])) e) at b)
+
+-- ---- one behind the other, and nothing else is touched
+
+module _ (ts : List (List ℕ)) (old : List ℕ) (e : length ts ≡ 8) where
+  abbrev all : Texts
+  all = laidOut ts old
+
+  starts-first : getD (all .starts) 0 0 ≡ 0
+  starts-first = starts-at ts 0 (omega (arith, e)) ∙ ap length (none-before ts)
+
+  ends-at : (k : ℕ) → k < 8 → length (before ts (k + 1)) ≡ getD (all .starts) k 0 + getD (all .lengths) k 0
+  ends-at k l =
+      let i : k < length ts = omega (arith, e) in
+      omega (arith, ap length (grown ts k i), length-append (before ts k) (getD ts k []), starts-at ts k i, length-at ts k)
+
+  starts-next : (k : ℕ) → k < 7 → getD (all .starts) (k + 1) 0 ≡ getD (all .starts) k 0 + getD (all .lengths) k 0
+  starts-next k l = starts-at ts (k + 1) (omega (arith, e)) ∙ ends-at k (omega arith)
+
+  counted : length (joined ts) ≡ getD (all .starts) 7 0 + getD (all .lengths) 7 0
+  counted = ap length (sym (all-before ts 8 (omega (arith, e)))) ∙ ends-at 7 (omega arith)
+
+  untouched : drop (length (joined ts)) (all .bytes) ≡ drop (length (joined ts)) old
+  untouched = drop-at (joined ts) (drop (length (joined ts)) old) (length (joined ts)) refl
+
+counts-all : (ts : List (List ℕ)) (old : Texts) (r : Fetched) (n : ℕ) → outcomeOf r ≡ fetched (length (old .bytes)) (got (joined ts) 0) → outcomeOf r ≡ wrote n → n ≡ length (joined ts)
+counts-all ts old r n a e =
+    let b : outcomeOf r ≡ wrote (length (joined ts)) = simp (fitted ts old r n a e) at a in cc
+
+refused-all : (b : Bool) (ts : List (List ℕ)) (old : Texts) (n c : ℕ) → cond b (wrote n) (refuse 15) ≡ refuse c → cond b (laidOut ts (old .bytes)) old ≡ old
+refused-all true ts old n c e = absurd (false≢true cc)
+refused-all false ts old n c e = refl
+
+module _ (r : Fetched) (m : Both Texts Texts) where
+  lies-in : (x : Read Header) → FetchesAll r m (mapRead textsIn x) → Lies r m
+  lies-in (got x j) a =
+      let ts = textsIn x in
+      let e = eight (x .says .edition) (x .bytes) in
+      let laid : (n : ℕ) → outcomeOf r ≡ wrote n → m .exit ≡ laidOut ts (m .entry .bytes) = λ n q. let t = fitted ts (m .entry) r n (a .answer) q in simp t at (a .memory) in
+      record {
+        unwritten = λ c q. a .memory ∙ refused-all (leb (length (joined ts)) (length (m .entry .bytes))) ts (m .entry) (length (joined ts)) c (sym (a .answer) ∙ q);
+        first = λ n q. rw (laid n q) (starts-first ts (m .entry .bytes) e);
+        next = λ n q k l. rw (laid n q) (starts-next ts (m .entry .bytes) e k l);
+        count = λ n q. rw (laid n q) (counts-all ts (m .entry) r n (a .answer) q ∙ counted ts (m .entry .bytes) e);
+        rest = λ n q. rw (laid n q, counts-all ts (m .entry) r n (a .answer) q) (untouched ts (m .entry .bytes) e);
+      }
+  lies-in (stops z) a =
+      record {
+        unwritten = λ c q. a .memory;
+        first = λ n q. absurd (no-text (sym (a .answer) ∙ q));
+        next = λ n q. absurd (no-text (sym (a .answer) ∙ q));
+        count = λ n q. absurd (no-text (sym (a .answer) ∙ q));
+        rest = λ n q. absurd (no-text (sym (a .answer) ∙ q));
+      }
+
+pub lies : (kind : ℕ) (s : List ℕ) (r : Fetched) (m : Both Texts Texts) → FetchesAll r m (read true (eightRule kind) s) → Lies r m
+lies kind s r m a = lies-in r m (read true (openRule kind) s) (rw (eight-opens kind s) at a)

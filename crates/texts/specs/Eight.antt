@@ -2,7 +2,7 @@
 use mathlib.Core.Path.{_≡_}
 use mathlib.Core.Bool.{cond}
 use mathlib.Core.List.{List, [], _∷_, _++_, map}
-use Prim.Native.Nat.{ℕ, zero, suc, _+_, _-_}
+use Prim.Native.Nat.{ℕ, zero, suc, _+_, _-_, _<_}
 use lib.Dec.{leb}
 use lib.ListN.{length, drop, getD}
 use denote.Ref.{RefT, now}
@@ -70,11 +70,19 @@ abbrev pub textAt : Texts → ℕ → List ℕ
 textAt m k = part (getD (m .starts) k 0) (getD (m .lengths) k 0) (m .bytes)
 
 -- the law: what is said of a text at once is what Fetch says of it alone
-pub record AsFetched (r : Fetched) (m : Texts) (number : ℕ) (f : Fetched) (old new : List ℕ) : Type 0 where
+pub record AsFetched (r : Fetched) (m : Both Texts Texts) (number : ℕ) (f : Fetched) (old new : List ℕ) : Type 0 where
   -- Fetch writes the text that stands in its place
-  pub given : (n : ℕ) → outcomeOf r ≡ wrote n → Fetches f old new (got (textAt m (number - 1)) n)
+  pub given : (n : ℕ) → outcomeOf r ≡ wrote n → Fetches f old new (got (textAt (m .exit) (number - 1)) n)
   -- and is refused as all are, but for their length
   pub refused : (c : ℕ) → ¬ (c ≡ 15) → outcomeOf r ≡ refuse c → outcomeOf f ≡ refuse c
+
+-- what a caller may count on who knows no text: one behind the other, and nothing else is touched
+pub record Lies (r : Fetched) (m : Both Texts Texts) : Type 0 where
+  pub unwritten : (c : ℕ) → outcomeOf r ≡ refuse c → m .exit ≡ m .entry
+  pub first : (n : ℕ) → outcomeOf r ≡ wrote n → getD (m .exit .starts) 0 0 ≡ 0
+  pub next : (n : ℕ) → outcomeOf r ≡ wrote n → (k : ℕ) → k < 7 → getD (m .exit .starts) (k + 1) 0 ≡ getD (m .exit .starts) k 0 + getD (m .exit .lengths) k 0
+  pub count : (n : ℕ) → outcomeOf r ≡ wrote n → n ≡ getD (m .exit .starts) 7 0 + getD (m .exit .lengths) 7 0
+  pub rest : (n : ℕ) → outcomeOf r ≡ wrote n → drop n (m .exit .bytes) ≡ drop n (m .entry .bytes)
 
 -- ---- Steps of the code.
 

@@ -25,7 +25,7 @@ ghost use Rattle.written.specs.Written.{written};
 ghost use Rattle.layouts.specs.Table.{fieldOf};
 ghost use Rattle.metadata.specs.Metadata.{metadataRule};
 ghost use Rattle.fetch.specs.Fetch.{textOf, fetchRule, Fetches};
-ghost use Rattle.texts.specs.Eight.{textsOf, eightRule, joined, Texts, lentTexts, FetchesAll, AsFetched, storedBytes, Lays};
+ghost use Rattle.texts.specs.Eight.{textsOf, eightRule, joined, Texts, lentTexts, FetchesAll, AsFetched, Lies, storedBytes, Lays};
 
 // Where the texts start in the lent buffer, their lengths, and the bytes that they take together.
 struct Laid {
@@ -185,5 +185,6 @@ pub fn fetch_texts(
 // What stands where in the lent memory is what Fetch gives, text by text, in a contract so that it cannot be left out.
 pub fn texts_are_fetched()
     ensures reads { λ _. ⌜ ((kind number : ℕ) (s : List ℕ) → 1 ≤ number → number ≤ 8 → read true (fetchRule kind number) s ≡ mapRead (λ ts. getD ts (number - 1) []) (read true (eightRule kind) s)) ⌝ }
-    ensures agrees { λ _. ⌜ ((kind number : ℕ) (s : List ℕ) (r f : Fetched) (m : Both Texts Texts) (old new : List ℕ) → 1 ≤ number → number ≤ 8 → FetchesAll r m (read true (eightRule kind) s) → Fetches f old new (read true (fetchRule kind number) s) → AsFetched r (m .exit) number f old new) ⌝ }
+    ensures agrees { λ _. ⌜ ((kind number : ℕ) (s : List ℕ) (r f : Fetched) (m : Both Texts Texts) (old new : List ℕ) → 1 ≤ number → number ≤ 8 → FetchesAll r m (read true (eightRule kind) s) → Fetches f old new (read true (fetchRule kind number) s) → AsFetched r m number f old new) ⌝ }
+    ensures lies { λ _. ⌜ ((kind : ℕ) (s : List ℕ) (r : Fetched) (m : Both Texts Texts) → FetchesAll r m (read true (eightRule kind) s) → Lies r m) ⌝ }
 {}

@@ -8,7 +8,7 @@ use Rattle.fetch.proofs.fetch_from.Tie as tie
 returns : tie.Need-returns
 returns c =
     let m = c .before .before .before .before .before in
-    c .answer-of .ensures _ _ _ _ (subst (Puts _ _ _) (m .before .before .text-bytes .ensures .1 (m .if1 .taken)) (c .before .before .before .decode-utf16 .ensures))
+    c .answer-of .ensures _ _ _ _ (subst (Puts _ _ _) (m .before .before .text-bytes .ensures .1 .0 (m .if1 .taken)) (c .before .before .before .decode-utf16 .ensures))
 
 returns-2 : tie.Need-returns-2
 returns-2 c =

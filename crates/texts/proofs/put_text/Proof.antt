@@ -15,13 +15,13 @@ recode-requires : tie.Need-recode-requires
 recode-requires c κs =
     let b = c .before in
     let s = b .before .before .before .before .before in
-    omega (arith, ap length (b .before .before .text-bytes .ensures .1 (b .if1 .taken)), s .pre .2, length-take (length (now (s .args .out)) - s .args .at) (drop (s .args .at) (now (s .args .out))), length-drop (s .args .at) (now (s .args .out)))
+    omega (arith, ap length (b .before .before .text-bytes .ensures .1 .0 (b .if1 .taken)), s .pre .2, length-take (length (now (s .args .out)) - s .args .at) (drop (s .args .at) (now (s .args .out))), length-drop (s .args .at) (now (s .args .out)))
 
 returns : tie.Need-returns
 returns c =
     let b = c .before .before .before .before in
     let s = b .before .before .before .before .before in
-    let e = b .before .before .text-bytes .ensures .1 (b .if1 .taken) in
+    let e = b .before .before .text-bytes .ensures .1 .0 (b .if1 .taken) in
     let r = c .before .before .recode .ensures in
     let n = r .0 ∙ ap length e in
     (n, put-behind (now (s .args .out)) _ _ (s .args .at) _ (omega (arith, s .pre .2)) n (r .1 ∙ ap (λ (t : List ℕ). t ++ drop (c .before .before .recode .result) (take (length (now (s .args .out)) - s .args .at) (drop (s .args .at) (now (s .args .out))))) e))

@@ -11,7 +11,7 @@ use Rattle.texts.proofs.text_length.Statement.{statement}
 use Rattle.texts.proofs.text_length.Tie as tie
 
 returns : tie.Need-returns
-returns c = c .measured .ensures ∙ ap (written _) (c .before .before .before .text-bytes .ensures .1 (c .before .if1 .taken))
+returns c = c .measured .ensures ∙ ap (written _) (c .before .before .before .text-bytes .ensures .1 .0 (c .before .if1 .taken))
 
 returns-2 : tie.Need-returns-2
 returns-2 c =
