@@ -58,7 +58,7 @@ enum chemstation_answer {
     CHEMSTATION_SUM_OUT_OF_RANGE = 17,
     CHEMSTATION_MORE_BYTES = 101, /* the bytes end inside the header or a record, and were not told to be the last */
     CHEMSTATION_FULL = 102,       /* the columns are full */
-    CHEMSTATION_GIVEN = 103       /* a run was opened, a text fetched, or a column added up */
+    CHEMSTATION_GIVEN = 103       /* a run was opened, a text or all eight fetched, or a column added up */
 };
 
 /* Places in `header`. */

@@ -6,7 +6,7 @@ use Rattle.fetch.specs.Fetch.{Outcome, wrote, refuse}
 use Rattle.sums.specs.declared.Total.{Total}
 use Rattle.sums.specs.declared.Total.the-variants.{Absent, Amount, Refused}
 
--- 103: a header was opened, a text fetched, or a column added up
+-- 103: a header was opened, a text or all eight fetched, or a column added up
 abbrev pub readNumber : {A : Type 0} → Read A → ℕ
 readNumber (got a n) = 103
 readNumber (stops z) = stopNumber z

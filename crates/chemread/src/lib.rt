@@ -25,7 +25,7 @@ const MORE_BYTES: u8 = 101;
 
 const FULL: u8 = 102;
 
-// a header was opened, a text fetched, or a column added up
+// a header was opened, a text or all eight fetched, or a column added up
 const GIVEN: u8 = 103;
 
 // The number of an answer without an outcome.
