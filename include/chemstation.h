@@ -97,10 +97,13 @@ uint8_t chemstation_open(uint8_t kind, const uint8_t *bytes, size_t length, bool
 /* Fetches a text by its number, 1 to 8, in UTF-8. The bytes are a file's, at least its whole header; they are taken as the last.
  *
  * GIVEN: the text stands at the start of `text` and is *text_length bytes long; no zero byte ends it, and the rest of `text` is as
- * it was. 1,024 bytes are enough for every text.
- * A refusal (1 to 10, 14, 15 where the text is longer than `room`, 16): nothing is written. */
+ * it was. 1,024 bytes are enough for every text. *replaced is how many units of the text, in the header's UTF-16, are unpaired
+ * surrogates: each of them has become a U+FFFD. A U+FFFD that stands in the header itself is not counted, and a text of an edition up
+ * to 102, whose texts are UTF-8, has 0, as has one that the edition lacks. A program that prints or indexes a text should look at it:
+ * above 0, letters of the text are lost.
+ * A refusal (1 to 10, 14, 15 where the text is longer than `room`, 16): *replaced is 0; `text` and *text_length are as they were. */
 uint8_t chemstation_text(uint8_t kind, uint8_t number, const uint8_t *bytes, size_t length, uint8_t *text, size_t room,
-                         size_t *text_length);
+                         size_t *text_length, size_t *replaced);
 
 /* Fetches all eight texts at once, in UTF-8: the run is opened once. The bytes are a file's, at least its whole header; they are taken
  * as the last.
@@ -109,10 +112,12 @@ uint8_t chemstation_text(uint8_t kind, uint8_t number, const uint8_t *bytes, siz
  * chemstation_text gives for number i + 1; it begins at texts[starts[i]] and is lengths[i] bytes long; no zero byte ends it. So starts[0]
  * is 0 and starts[i + 1] is starts[i] + lengths[i]: an empty text, or one that the edition lacks, has length 0 and the start of the
  * next. (These are places in `texts`; those of chemstation_open are places in the header.) The rest of `texts` is as it was.
- * CHEMSTATION_TEXTS_ROOM bytes are enough for every run.
- * A refusal (1 to 10, 14, 15 where the eight together are longer than `room`): nothing is written. */
+ * CHEMSTATION_TEXTS_ROOM bytes are enough for every run. replaced[i] is the *replaced of chemstation_text for number i + 1: a program
+ * that prints or indexes the texts should look at all eight.
+ * A refusal (1 to 10, 14, 15 where the eight together are longer than `room`): all eight of `replaced` are 0; `texts`, `starts` and
+ * `lengths` are as they were. */
 uint8_t chemstation_texts(uint8_t kind, const uint8_t *bytes, size_t length, uint8_t *texts, size_t room, size_t starts[8],
-                          size_t lengths[8]);
+                          size_t lengths[8], size_t replaced[8]);
 
 /* Reads records into six columns of one length, given the state, the bytes behind those consumed so far, and whether the file
  * ends with them. Record i is time[i], axis[i], unscaled[i], scaled[i], minutes[i], leftover[i]: minutes; m/z for MS, nanometres for

@@ -170,6 +170,83 @@ def titled(*texts, kind=1, edition=81):
     return plain(kind, size, edition=edition, fields=[(at, form(text)) for at, text in zip(TEXT_PLACES[edition], texts) if at])
 
 
+# ---- replaced letters
+
+# Where the texts of the new editions stand.
+NEW_PLACES = {130: TEXT_PLACES[179], 179: TEXT_PLACES[179], 131: (858, None, 1880, 2492, 2574, None, 3093, 2391)}
+HIGH, LOW = 0xD834, 0xDD1E  # the halves of U+1D11E
+
+# Units of UTF-16: what they are, the text that comes of them, and how many of them are replaced, by hand.
+UNITS = {
+    "none": ((), "", 0), "letters": ((0x61, 0xEF, 0x20AC), "aï€", 0), "a pair": ((HIGH, LOW), "𝄞", 0),
+    "two pairs": ((HIGH, LOW) * 2, "𝄞𝄞", 0), "the first pair": ((0xD800, 0xDC00), "\U00010000", 0),
+    "the last pair": ((0xDBFF, 0xDFFF), "\U0010FFFF", 0), "the units beside surrogates": ((0xD7FF, 0xE000), "\uD7FF\uE000", 0),
+    "a stored U+FFFD": ((0x61, 0xFFFD, 0x62), "a\uFFFDb", 0), "stored ones alone": ((0xFFFD,) * 3, "\uFFFD" * 3, 0),
+    "the last units": ((0xFEFF, 0xFFFE, 0xFFFF), "\uFEFF\uFFFE\uFFFF", 0),
+    "a high": ((HIGH,), "\uFFFD", 1), "a low": ((LOW,), "\uFFFD", 1),
+    "the first high": ((0xD800, 0x61), "\uFFFDa", 1), "the last high": ((0xDBFF, 0x61), "\uFFFDa", 1),
+    "the first low": ((0x61, 0xDC00), "a\uFFFD", 1), "the last low": ((0xDFFF, 0x61), "\uFFFDa", 1),
+    "low, high": ((LOW, HIGH), "\uFFFD\uFFFD", 2), "high, high": ((HIGH, HIGH), "\uFFFD\uFFFD", 2),
+    "low, low": ((LOW, LOW), "\uFFFD\uFFFD", 2), "high, high, low": ((HIGH, HIGH, LOW), "\uFFFD𝄞", 1),
+    "high, low, low": ((HIGH, LOW, LOW), "𝄞\uFFFD", 1), "high, low, high": ((HIGH, LOW, HIGH), "𝄞\uFFFD", 1),
+    "low, high, low": ((LOW, HIGH, LOW), "\uFFFD𝄞", 1), "a high at the end": ((0x61, HIGH), "a\uFFFD", 1),
+    "a letter between halves": ((HIGH, 0x61, LOW), "\uFFFDa\uFFFD", 2),
+    "a high before a stored U+FFFD": ((HIGH, 0xFFFD), "\uFFFD\uFFFD", 1), "a low behind one": ((0xFFFD, LOW), "\uFFFD\uFFFD", 1),
+    "pairs between halves": ((HIGH, *(HIGH, LOW) * 3, LOW), "\uFFFD𝄞𝄞𝄞\uFFFD", 2),
+    "255 highs": ((HIGH,) * 255, "\uFFFD" * 255, 255), "255 lows": ((LOW,) * 255, "\uFFFD" * 255, 255),
+    "127 pairs and a high": ((HIGH, LOW) * 127 + (HIGH,), "𝄞" * 127 + "\uFFFD", 1),
+    "a high and 127 pairs": ((HIGH,) + (HIGH, LOW) * 127, "\uFFFD" + "𝄞" * 127, 1),
+    "a low and 127 pairs": ((LOW,) + (HIGH, LOW) * 127, "\uFFFD" + "𝄞" * 127, 1),
+    "low, high, 127 times": ((LOW, HIGH) * 127, "\uFFFD" + "𝄞" * 126 + "\uFFFD", 2),
+}
+
+
+def of_units(*units):
+    """A text of a new edition, behind its length."""
+    return bytes([len(units)]) + le(f"{len(units)}H", *units)
+
+
+def replaced_of(stored):
+    """How many units of a text are replaced. Python's decoder, told to let surrogates pass, leaves those that are unpaired."""
+    return sum("\uD800" <= letter <= "\uDFFF" for letter in stored.decode("utf-16-le", "surrogatepass"))
+
+
+def replaced_in(data):
+    """The same of the eight texts of a header that opens."""
+    places = NEW_PLACES.get(int.from_bytes(data[248:252], "big"), [None] * 8)
+    return [replaced_of(data[at + 1 : at + 1 + 2 * data[at]]) if at else 0 for at in places]
+
+
+def halved(counts, kind=5, edition=131):
+    """A header of a new edition; each text has a letter, so many halves and a stored U+FFFD, which is not counted. Of UV or DAD without
+    scans it is a run to which nothing else is to be said."""
+    fields = [(at, of_units(0x61, *[LOW] * count, 0xFFFD)) for at, count in zip(NEW_PLACES[edition], counts) if at]
+    return plain(kind, 5120, scans=0, edition=edition, fields=fields)
+
+
+def half_text(count):
+    """Such a text."""
+    return "a" + "\uFFFD" * (count + 1)
+
+
+OLDER = """#include <stddef.h>
+unsigned char chemstation_open(void) { return 1; }
+unsigned char chemstation_text(void) { return 1; }
+unsigned char chemstation_fill(void) { return 1; }
+unsigned char chemstation_sum(void) { return 1; }
+unsigned char chemstation_texts(unsigned char kind, const unsigned char *bytes, size_t length, unsigned char *texts, size_t room,
+                                size_t *starts, size_t *lengths%s) { %s return 1; }
+"""
+WRITES = "for (int i = 0; i < %d; i++) replaced[i] = 0;"
+
+
+def older_library(file, written=None):
+    """A library whose refusals write so many counts; None: one from before there were any."""
+    source = OLDER % (("", "") if written is None else (", size_t *replaced", WRITES % written))
+    subprocess.run(["cc", "-shared", "-fPIC", "-o", str(file), "-x", "c", "-"], input=source.encode(), check=True)
+    return file
+
+
 # ---- stored times
 
 # Times as they are stored, in milliseconds, and their whole minutes and leftover milliseconds, by hand.

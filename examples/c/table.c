@@ -4,7 +4,7 @@
  *
  * KIND is a digit: 1 FID, 2 MS, 3 MWD, 4 DAD, 5 UV, 6 array. --log prints the log program's lines (README.md) in its place. The table
  * has times in minutes; for MS, DAD and UV the time as the file stores it stands behind the intensities, in whole minutes and the
- * milliseconds left over.
+ * milliseconds left over. Behind a text of which letters were replaced by U+FFFD stands how many.
  * Status: 0 the run closed with 0; 1 another answer closed it, or the output could not be written; 2 wrong usage, or a file that
  * cannot be read. */
 #include <errno.h>
@@ -114,13 +114,15 @@ static void put_header(uint8_t kind, const struct part *p, const size_t header[5
     }
     for (uint8_t number = 1; number <= 8; number++) {
         uint8_t text[1024] = {0};
-        size_t length = 0;
-        uint8_t answer = chemstation_text(kind, number, p->bytes, header[CHEMSTATION_SIZE], text, sizeof text, &length);
+        size_t length = 0, replaced = 0;
+        uint8_t answer = chemstation_text(kind, number, p->bytes, header[CHEMSTATION_SIZE], text, sizeof text, &length, &replaced);
         printf("%s\t", texts[number - 1]);
         if (answer == CHEMSTATION_GIVEN)
             put_text(text, length);
         else
             printf("(%s)", meaning_of(answer));
+        if (replaced > 0)
+            printf("\t%zu replaced", replaced);
         putchar('\n');
     }
     printf("time\t%s\tunscaled\tscaled", kind == CHEMSTATION_MS ? "m/z" : has_axis(kind) ? "wavelength" : "-");

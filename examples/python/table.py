@@ -45,9 +45,14 @@ def log(run):
     yield from total(run, "t")
 
 
+def marked(text, replaced):
+    """A text, and how many of its letters were replaced by U+FFFD, where there are some."""
+    return (text, f"{replaced} replaced") if replaced else (text,)
+
+
 def table(run):
     yield from ((name, getattr(run, name)) for name in NUMBERS)
-    yield from ((name.replace("_", " "), text) for name, text in run.texts.items())
+    yield from ((name.replace("_", " "), *marked(text, run.replaced[name])) for name, text in run.texts.items())
     stored = ("minutes", "leftover") if run.axis_name else ()  # the kinds with an axis are those with a stored time
     yield ("time", run.axis_name or "-", "unscaled", "scaled", *stored)
     for record in run.records():
@@ -58,7 +63,8 @@ def table(run):
 def main():
     parser = argparse.ArgumentParser(
         description="Prints a run as a table, its columns divided by tabs. Times are in minutes; for MS, DAD and UV the time as the file "
-        "stores it stands behind the intensities, in whole minutes and the milliseconds left over.")
+        "stores it stands behind the intensities, in whole minutes and the milliseconds left over. Behind a text of which letters were "
+        "replaced by U+FFFD stands how many.")
     parser.add_argument("--log", action="store_true", help="print the log program's lines (README.md) in its place")
     parser.add_argument("kind", metavar="KIND", help="1 FID, 2 MS, 3 MWD, 4 DAD, 5 UV, 6 array, by number or name")
     parser.add_argument("file", metavar="FILE")

@@ -12,7 +12,7 @@
 from chemstation.answers import AXES, KINDS, Answer, Refused
 from chemstation.columns import Columns, Left, Record
 from chemstation.library import NoLibrary
-from chemstation.run import Run, open, texts
+from chemstation.run import Run, Texts, open, texts
 from chemstation.sums import add_up
 
-__all__ = ["AXES", "KINDS", "Answer", "Columns", "Left", "NoLibrary", "Record", "Refused", "Run", "add_up", "open", "texts"]
+__all__ = ["AXES", "KINDS", "Answer", "Columns", "Left", "NoLibrary", "Record", "Refused", "Run", "Texts", "add_up", "open", "texts"]

@@ -9,6 +9,7 @@ from chemstation.library import GIVEN, library
 
 TEXTS = ["sample", "description", "operator", "instrument", "method", "signal_name", "y_units", "run_date"]
 ROOM = 6120  # bytes, enough for the eight texts of any run
+EIGHT = c_size_t * 8  # a number for each text
 
 
 def held(source):
@@ -39,35 +40,46 @@ def pointer(memory):
     return byref(c_ubyte.from_buffer(memory))
 
 
+class Texts(dict):
+    """The eight texts of a header by name. `replaced` has by the same names how many letters of each were replaced by U+FFFD: unpaired
+    surrogates in the header's UTF-16. A U+FFFD that stands in the header itself is none of them."""
+
+    def __init__(self, texts, replaced):
+        super().__init__(texts)
+        self.replaced = replaced
+
+
 def texts_in(memory, length, kind):
-    """The eight texts by name, by one call."""
-    texts, starts, lengths = (c_ubyte * ROOM)(), (c_size_t * 8)(), (c_size_t * 8)()
-    taken(library().chemstation_texts(byte_of(kind), pointer(memory), length, texts, ROOM, starts, lengths))
+    """The Texts, by one call."""
+    texts, starts, lengths, replaced = (c_ubyte * ROOM)(), EIGHT(), EIGHT(), EIGHT()
+    taken(library().chemstation_texts(byte_of(kind), pointer(memory), length, texts, ROOM, starts, lengths, replaced))
     written = memoryview(texts)
-    return {name: bytes(written[start : start + count]).decode("utf-8") for name, start, count in zip(TEXTS, starts, lengths)}
+    found = {name: bytes(written[start : start + count]).decode("utf-8") for name, start, count in zip(TEXTS, starts[:], lengths[:])}
+    return Texts(found, dict(zip(TEXTS, replaced[:])))
 
 
 def texts(source, kind):
-    """The eight texts of a run's header by name, from a file's name or its bytes, which need not go beyond the header; no record is
-    read. Refused where the bytes are no run of this kind."""
+    """The eight texts of a run's header by name, as Texts, from a file's name or its bytes, which need not go beyond the header; no record
+    is read. Refused where the bytes are no run of this kind."""
     return texts_in(*held(source), kind_number(kind))
 
 
 class Run:
     """A run that was opened: what its header says, in the names of include/chemstation.h; times in minutes; `length`, the bytes of the
-    whole file; `texts`, the eight texts by name, which are attributes too. Refused where the bytes are no run of this kind."""
+    whole file; `texts`, the eight texts by name, which are attributes too; `replaced`, how many letters of each were replaced, by name.
+    Refused where the bytes are no run of this kind."""
 
     def __init__(self, source, kind):
         kind = kind_number(kind)
         self._memory, self.length = held(source)
-        header, corrections, places = (c_size_t * 5)(), (c_double * 4)(), (c_size_t * 8)
+        header, corrections, at = (c_size_t * 5)(), (c_double * 4)(), (EIGHT(), EIGHT())
         self._state, self._columns = ((c_double * 6)(), (c_size_t * 4)(), (c_uint32 * 1)()), None
-        at = places(), places()
         taken(library().chemstation_open(byte_of(kind), pointer(self._memory), self.length, True, header, corrections, *at, *self._state))
         self.kind, self.kind_name, self.axis_name = kind, KINDS[kind], AXES.get(kind)
         self.edition, self.size, self.sequence, self.vial, self.replicate = header
         self.start, self.end, self.offset, self.multiplier = corrections
         self.texts = texts_in(self._memory, self.size, kind)
+        self.replaced = self.texts.replaced
         vars(self).update(self.texts)
 
     def columns(self):

@@ -1,5 +1,5 @@
-"""What to look at: where a kind and a file disagree, and where the unscaled values do not add up. Advice: it refuses nothing, and no
-log has it. docs/ANSWERS.md says what each means.
+"""What to look at: where a kind and a file disagree, where the unscaled values do not add up, and where letters of a text were
+replaced. Advice: it refuses nothing, and no log has it. docs/ANSWERS.md says what each means.
 
 Each function gives a list of sentences, empty where there is nothing to say. None needs the library.
 """
@@ -69,6 +69,15 @@ def of_sum(total):
     return [f"the log has t - in the place of a sum, {NO_SUM}: {meaning(NO_SUM)}"] if total == "-" else []
 
 
+def of_replaced(replaced):
+    """Of the counts of replaced letters, by the names of the texts: a sentence for each text that has some."""
+    def sentence(text, count):
+        if count == 1:
+            return f"1 letter of the {text} was replaced by U+FFFD: the header has an unpaired surrogate there"
+        return f"{count} letters of the {text} were replaced by U+FFFD: the header has unpaired surrogates there"
+    return [sentence(name.replace("_", " "), count) for name, count in replaced.items() if count]
+
+
 def of_run(run, name):
     """Of a run that was opened by the module, and of its file's name."""
     columns = run.columns()
@@ -77,7 +86,7 @@ def of_run(run, name):
         sentences += of_bytes_behind(columns.left.behind)
     if columns.count:
         sentences += of_times(run.kind, columns.time[-1], run.end)
-    return sentences
+    return sentences + of_replaced(run.replaced)
 
 
 def of_log(kind, name, length, first, last, total=None):

@@ -20,7 +20,8 @@ SUBCOMMANDS = ["show", "table", "sum", "texts", "plot", "volume"]
 KINDS_HELP = f"the kind of the run, by number or name: {kinds_in_words()}; the file does not say it"
 STATUS_HELP = (
     "Status: 0 the run closed with 0; 1 another answer closed it (docs/ANSWERS.md), or the output could not be written; "
-    "2 wrong usage, or a file that cannot be read. What to look at where the kind and the file disagree is said on standard error."
+    "2 wrong usage, or a file that cannot be read. What to look at, where the kind and the file disagree or letters of a text were "
+    "replaced, is said on standard error."
 )
 TEXT = {"encoding": "utf-8", "errors": "surrogateescape", "newline": ""}  # names of files may be any bytes
 

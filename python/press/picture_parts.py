@@ -37,6 +37,7 @@ class Source:
     breaks: frozenset = frozenset()  # records that have a line that cannot be read before them
     faults: List[str] = field(default_factory=list)  # what is refused, cut or damaged; each begins with the word for it
     advice: List[str] = field(default_factory=list)
+    unseen: List[str] = field(default_factory=list)  # advice of texts that no picture shows
 
     @property
     def units(self):
@@ -127,7 +128,7 @@ def begun(source, view=""):
     name = clean(source.name, 60)
     below = [part for part in (signal or KINDS[source.kind], view, date) if part]
     stamp = re.split(":| after", source.faults[0])[0] if source.faults else ""
-    advice = [f"to look at: {sentence}" for sentence in source.advice]
+    advice = [f"to look at: {sentence}" for sentence in source.advice if sentence not in source.unseen]
     facts = [main_fact(source, name)]
     return Picture(sample or name, "  ·  ".join(below), stamp, list(source.faults), facts, advice)
 

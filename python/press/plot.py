@@ -21,7 +21,8 @@ DESCRIPTION = (
     "infinities leave a gap, with a red mark below the axis. Title and axes have what the header says: sample, signal, units "
     "and run date. The peaks that rise highest above what is around them are marked with time and height. The caption has the "
     "file, its edition, the count of records, the largest and the smallest intensity and the closing answer. What is refused, "
-    "cut or damaged is said in red, and so is what to look at where the kind and the file disagree."
+    "cut or damaged is said in red, and so is what to look at where the kind and the file disagree, or where letters of a text "
+    "that the picture shows were replaced by U+FFFD."
 )
 STATUS = (
     "Status: 0 drawn, and the run closed with 0; 1 drawn, but the run is refused, cut or damaged, as the picture says, "
@@ -29,6 +30,7 @@ STATUS = (
     "--log was given."
 )
 ENDINGS = "pdf", "svg", "png"
+SHOWN = "sample", "signal_name", "y_units", "run_date"  # the texts that a picture has
 MOST_DOTS = 100_000_000  # of a picture: 400 MB of memory
 
 
@@ -132,8 +134,9 @@ def source_of_run(arguments):
     times, axes, values = (array("d", column.tobytes()) for column in (columns.time, columns.axis, columns.scaled))
     answer = columns.closing.number
     faults = [refusal(len(values), answer)] if answer else []
+    unseen = advice.of_replaced({text: count for text, count in opened.replaced.items() if text not in SHOWN})
     return Source(name, opened.kind, times, axes if opened.kind in AXES else None, values, answer,
-                  (opened.edition, opened.size), opened.texts, faults=faults, advice=advice.of_run(opened, arguments.file))
+                  (opened.edition, opened.size), opened.texts, faults=faults, advice=advice.of_run(opened, arguments.file), unseen=unseen)
 
 
 def source_of_stream(stream, name, kind):

@@ -7,7 +7,8 @@ HELP = "what a header says"
 DESCRIPTION = (
     "Prints what the header of a run says, each field by its name, and how many records the run has, from when to when, the sum of their "
     "unscaled intensities (not for array; - where it is refused), and what closed it. Times are in minutes. Control characters in a text "
-    "are written as \\x and two digits."
+    "are written as \\x and two digits. Behind a text of which letters were replaced by U+FFFD (unpaired surrogates in the header) stands "
+    "how many, as [2 replaced]."
 )
 
 
@@ -24,9 +25,18 @@ def minutes(time):
     return f"{time:.10g} minutes"
 
 
+def spaced(name):
+    return name.replace("_", " ")
+
+
+def marked(text, replaced):
+    """A text with the count of its replaced letters behind it, where there are some."""
+    return f"{plain(text)}  [{replaced} replaced]" if replaced else plain(text)
+
+
 def texts(named):
     """The texts of a header, as pairs of a name and a text."""
-    return [(name.replace("_", " "), plain(text)) for name, text in named.items()]
+    return [(spaced(name), marked(text, named.replaced[name])) for name, text in named.items()]
 
 
 def header(run):

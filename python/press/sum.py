@@ -12,8 +12,8 @@ DESCRIPTION = (
 )
 STATUS = (
     "Status: 0 the sum is given, and the run closed with 0; 1 the sum is refused, another answer closed the run (docs/ANSWERS.md), or the "
-    "output could not be written; 2 wrong usage, an array run, or a file that cannot be read. What to look at where the kind and the file "
-    "disagree is said on standard error."
+    "output could not be written; 2 wrong usage, an array run, or a file that cannot be read. What to look at, where the kind and the file "
+    "disagree or letters of a text were replaced, is said on standard error."
 )
 
 

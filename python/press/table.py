@@ -9,8 +9,9 @@ DESCRIPTION = (
     "Prints a run as a table: a row for each record, with its time in minutes, its m/z (MS) or its wavelength in nanometres (DAD, UV), and "
     "its intensity before and after scaling. For MS, DAD and UV two more columns, minutes and leftover, have the time as the file stores it, "
     "in whole minutes and the milliseconds left over. Each double is written with the digits that give it again. Text has what the header "
-    "says above the table, and below it the sum of the unscaled intensities (not for array) and what closed the run. CSV (--csv) has a "
-    "line of names and the rows, and where another answer than 0 closed the run a last line that says so and begins with #."
+    "says above the table, as show prints it, and below it the sum of the unscaled intensities (not for array) and what closed the run. "
+    "CSV (--csv) has a line of names and the rows, and where another answer than 0 closed the run a last line that says so and begins "
+    "with #."
 )
 
 

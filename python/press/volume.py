@@ -108,7 +108,7 @@ def missing_library():
         library()
         return []
     except NoLibrary as error:
-        return [f"no times were compared with the headers' ends: {error}"]
+        return [f"no times were compared with the headers' ends, and no texts looked at for replaced letters: {error}"]
 
 
 def run(arguments):

@@ -28,6 +28,7 @@ class Result(NamedTuple):
     records: int = 0
     said: str = ""  # by the log program
     left: bool = False  # whether bytes stand behind the end of the run
+    replaced: bool = False  # whether letters of its texts were replaced
     kept: bool = False
     drawn: bool = False
     look: tuple = ()  # sentences about what is to be looked at
@@ -56,12 +57,12 @@ def in_words(line, log):
     return f"{line.name}: REFUSED after {log.records} records, {log.answer}: {meaning(log.answer)}"
 
 
-def of_times(line, log):
-    """Advice on the last record's time beside the header's end, which the library reads."""
+def opened(line):
+    """The run of a line, by the library; None where it is refused, or where there is no library."""
     try:
-        return advice.of_times(line.kind, log.last_time, chemstation.open(line.path, line.kind).end)
+        return chemstation.open(line.path, line.kind)
     except (chemstation.NoLibrary, chemstation.Refused, OSError):
-        return []
+        return None
 
 
 class Folder:
@@ -115,11 +116,14 @@ class Folder:
     def result(self, line, made, kept):
         left = [sentence for said in made.said.splitlines() for sentence in advice.of_left(said)]
         look = advice.of_log(line.kind, line.name, made.run.size, made.log.first, made.log.last, made.log.total) + left
-        if made.log.last_time is not None:
-            look += of_times(line, made.log)
+        run = opened(line)
+        if run and made.log.last_time is not None:
+            look += advice.of_times(line.kind, made.log.last_time, run.end)
+        replaced = advice.of_replaced(run.replaced) if run else []
         undrawn = self.draw(line) if self.plots else []
         answer, records, drawn = made.log.answer, made.log.records, self.plots and not undrawn
-        return Result(line, answer, in_words(line, made.log), records, made.said, bool(left), kept, drawn, (*look, *undrawn))
+        return Result(line, answer, in_words(line, made.log), records, made.said, bool(left), bool(replaced), kept, drawn,
+                      (*look, *replaced, *undrawn))
 
     def take(self, line):
         """What becomes of a line; None where it was broken off."""

@@ -6,7 +6,7 @@ ROW = "{:<12}{:>12}"
 
 
 def counted(results, total, plots):
-    """Names and numbers. Rows that speak of kept logs, of pictures or of lines not done come where there are some."""
+    """Names and numbers. Rows that speak of replaced letters, of kept logs, of pictures or of lines not done come where there are some."""
     def runs(test):
         return sum(map(test, results))
 
@@ -19,7 +19,7 @@ def counted(results, total, plots):
         "bad lines": bad,
         "bytes left": runs(lambda r: r.left),
     }
-    more = {"logs kept": runs(lambda r: r.kept), "not done": total - len(results)}
+    more = {"replaced": runs(lambda r: r.replaced), "logs kept": runs(lambda r: r.kept), "not done": total - len(results)}
     rows.update((name, number) for name, number in more.items() if number)
     return {**rows, "pictures": runs(lambda r: r.drawn)} if plots else rows
 

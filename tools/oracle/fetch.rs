@@ -5,7 +5,8 @@
 //! time. The library writes each text into memory that is there.
 //!
 //! Before anything is timed, all texts of all headers are compared. The original's eighth is what it reads where the date's
-//! field is moved to the sample's place (`driver::run_date_text`); the date itself has nothing beside it in the library.
+//! field is moved to the sample's place (`driver::run_date_text`); the date itself has nothing beside it in the library. The counts of
+//! replaced letters have nothing beside them in the original.
 //!
 //! The feature `texts` is for an archive that has chemstation_texts; without it there is no side `all`.
 
@@ -17,7 +18,8 @@ use crate::parsers::agilent::metadata::ChemstationMetadata;
 use crate::parsers::agilent::read_agilent_header;
 use crate::EtError;
 
-// As include/chemstation.h declares them.
+// As include/chemstation.h declares them. An archive from before replaced letters were counted has the same functions without the last
+// pointer; in the calls of x86-64 one argument more is harmless, and the numbers that it points to stay as they were.
 #[link(name = "chemread", kind = "static")]
 extern "C" {
     fn chemstation_text(
@@ -28,6 +30,7 @@ extern "C" {
         text: *mut u8,
         room: usize,
         text_length: *mut usize,
+        replaced: *mut usize,
     ) -> u8;
     #[cfg(feature = "texts")]
     fn chemstation_texts(
@@ -38,6 +41,7 @@ extern "C" {
         room: usize,
         starts: *mut usize,
         lengths: *mut usize,
+        replaced: *mut usize,
     ) -> u8;
 }
 
@@ -51,11 +55,12 @@ struct Lent {
     texts: [u8; 6120],
     starts: [usize; 8],
     lengths: [usize; 8],
+    replaced: [usize; 8],
 }
 
 impl Lent {
     fn new() -> Lent {
-        Lent { texts: [0; 6120], starts: [0; 8], lengths: [0; 8] }
+        Lent { texts: [0; 6120], starts: [0; 8], lengths: [0; 8], replaced: [0; 8] }
     }
 }
 
@@ -66,16 +71,17 @@ fn described(kind: u8, header: &[u8]) -> Result<ChemstationMetadata, EtError> {
     ChemstationMetadata::from_header(&header[..size])
 }
 
-/// The answer; the text stands at the start of the lent texts, its length in the place of its number.
+/// The answer; the text stands at the start of the lent texts, its length and its count in the places of its number.
 fn fetched(kind: u8, number: u8, header: &[u8], lent: &mut Lent) -> u8 {
-    let length = &mut lent.lengths[usize::from(number) - 1];
+    let at = usize::from(number) - 1;
+    let (texts, length, replaced) = (lent.texts.as_mut_ptr(), &mut lent.lengths[at], &mut lent.replaced[at]);
     // The lent texts are longer than the room, and nothing overlaps.
-    unsafe { chemstation_text(kind, number, header.as_ptr(), header.len(), lent.texts.as_mut_ptr(), ROOM, length) }
+    unsafe { chemstation_text(kind, number, header.as_ptr(), header.len(), texts, ROOM, length, replaced) }
 }
 
 #[cfg(feature = "texts")]
 fn all_fetched(kind: u8, header: &[u8], lent: &mut Lent) -> u8 {
-    let Lent { texts, starts, lengths } = lent;
+    let Lent { texts, starts, lengths, replaced } = lent;
     // Each pointer is to so many elements as are told beside it or in the header file, and nothing overlaps.
     unsafe {
         chemstation_texts(
@@ -86,6 +92,7 @@ fn all_fetched(kind: u8, header: &[u8], lent: &mut Lent) -> u8 {
             texts.len(),
             starts.as_mut_ptr(),
             lengths.as_mut_ptr(),
+            replaced.as_mut_ptr(),
         )
     }
 }

@@ -4,6 +4,7 @@
 The library is given made, generated, cut and damaged headers, all kinds, text numbers and rooms. Its answer, the whole of the lent
 buffer between guards, and the length, or the starts and lengths, are held to the model (texts.py) after every call. Before that
 wrong models (texts_wrong.py) are put in the library's place, and the cases have to tell each of them.
+How many units were replaced is not judged here (judge_replaced.py); the memory lent for it stands between guards all the same.
 Prints each fault and saves its bytes, then counts; status 1 where there was a fault.
 """
 
@@ -34,6 +35,8 @@ LONGEST, ALL = 1024, 6120
 FOREIGN = bytes(random.Random('texts').choices([0xC0, 0xC1, *range(0xF5, 0x100)], k=2 * ALL))
 GUARD = 24
 COUNT, STARTS, LENGTHS = 2**63 + 11, [2**62 + 3 * i for i in range(8)], [2**61 + 5 * i for i in range(8)]
+REPLACED = [0xF1E2_D3C4_B5A6_9788 + 7 * i for i in range(8)]  # no byte is 0: who writes half a number leaves some of them
+RESULTS = {'text': ('answer', 'buffer', 'text_length', 'replaced'), 'texts': ('answer', 'buffer', 'starts', 'lengths', 'replaced')}
 
 
 class Fault(Exception):
@@ -68,11 +71,12 @@ class Library:
         self.text_of, self.texts_of = (getattr(library, 'chemstation_' + name, None) for name in ('text', 'texts'))
         pointer, length, byte = ctypes.c_void_p, ctypes.c_size_t, ctypes.c_uint8
         if self.text_of:
-            self.text_of.restype, self.text_of.argtypes = byte, [byte, byte, pointer, length, pointer, length, pointer]
+            self.text_of.restype, self.text_of.argtypes = byte, [byte, byte, pointer, length, pointer, length, pointer, pointer]
         if self.texts_of:
-            self.texts_of.restype, self.texts_of.argtypes = byte, [byte, pointer, length, pointer, length, pointer, pointer]
+            self.texts_of.restype, self.texts_of.argtypes = byte, [byte, pointer, length, pointer, length, pointer, pointer, pointer]
         self.room = ctypes.create_string_buffer(2 * ALL + 4 * GUARD)
-        self.count, self.starts, self.lengths = Words(1), Words(8), Words(8)
+        self.count, self.replaced = Words(1), Words(1)
+        self.starts, self.lengths, self.eight = Words(8), Words(8), Words(8)
         self.calls = 0
 
     def lend(self, case):
@@ -101,17 +105,19 @@ class Library:
             raise Fault('buffer', 'nothing written beside it', 'a write beside it')
         return found[GUARD:-GUARD]
 
-    def text(self, kind, number, lent, count):
+    def text(self, kind, number, lent, count, replaced):
         at = self.lend_room(lent)
-        self.count.lend([count])
-        answer = self.text_of(kind, number, self.address, self.told, at, len(lent), self.count.address)
-        return answer, self.held(at, len(lent)), self.count.values('text_length')[0]
+        self.count.lend([count]), self.replaced.lend([replaced])
+        answer = self.text_of(kind, number, self.address, self.told, at, len(lent), self.count.address, self.replaced.address)
+        return answer, self.held(at, len(lent)), self.count.values('text_length')[0], self.replaced.values('replaced')[0]
 
-    def texts(self, kind, lent, starts, lengths):
+    def texts(self, kind, lent, starts, lengths, replaced):
         at = self.lend_room(lent)
-        self.starts.lend(starts), self.lengths.lend(lengths)
-        answer = self.texts_of(kind, self.address, self.told, at, len(lent), self.starts.address, self.lengths.address)
-        return answer, self.held(at, len(lent)), self.starts.values('starts'), self.lengths.values('lengths')
+        self.starts.lend(starts), self.lengths.lend(lengths), self.eight.lend(replaced)
+        answer = self.texts_of(kind, self.address, self.told, at, len(lent),
+                               self.starts.address, self.lengths.address, self.eight.address)
+        return (answer, self.held(at, len(lent)),
+                self.starts.values('starts'), self.lengths.values('lengths'), self.eight.values('replaced'))
 
 
 class Modelled:
@@ -126,10 +132,10 @@ class Modelled:
     def given_back(self):
         pass
 
-    def text(self, kind, number, lent, count):
+    def text(self, kind, number, lent, count, replaced):
         return self.text_of(kind, number, self.data, lent, count)
 
-    def texts(self, kind, lent, starts, lengths):
+    def texts(self, kind, lent, starts, lengths, replaced):
         return self.texts_of(kind, self.data, lent, starts, lengths)
 
 
@@ -149,31 +155,34 @@ def compared(names, due, got):
 
 
 class Judge:
+    # What is judged: the model, wrong ones, cases, and what puts a model in the library's place.
+    name, model, edits, cases, modelled = 'texts', texts, texts_wrong.EDITS, cases, Modelled
+
     def __init__(self, callee):
-        self.callee, self.counts, self.answers = callee, collections.Counter(), collections.Counter()
+        self.callee, self.right = callee, self.modelled(self.model)
+        self.counts, self.answers = collections.Counter(), collections.Counter()
         self.call = None  # the last one, for who looks into a fault
 
     def text(self, case, number, room):
         self.call = 'text %d, room %d' % (number, room)
-        lent = FOREIGN[number % 256:][:room]
-        due = texts.text(case.kind, number, case.file[:case.length], lent, COUNT)
-        got = self.callee.text(case.kind, number, lent, COUNT)
-        self.counts['calls of text'] += 1
-        compared(('answer', 'buffer', 'text_length'), due, got)
-        self.answers['text', got[0]] += 1
+        lent = case.kind, number, FOREIGN[number % 256:][:room], COUNT, REPLACED[number % 8]
+        self.compare('text', self.right.text(*lent), self.callee.text(*lent))
 
     def texts(self, case, room):
         self.call = 'texts, room %d' % room
-        lent = FOREIGN[:room]
-        due = texts.texts(case.kind, case.file[:case.length], lent, STARTS, LENGTHS)
-        got = self.callee.texts(case.kind, lent, STARTS, LENGTHS)
-        self.counts['calls of texts'] += 1
-        compared(('answer', 'buffer', 'starts', 'lengths'), due, got)
-        self.answers['texts', got[0]] += 1
+        lent = case.kind, FOREIGN[:room], STARTS, LENGTHS, REPLACED
+        self.compare('texts', self.right.texts(*lent), self.callee.texts(*lent))
+
+    def compare(self, function, due, got):
+        """What the model says nothing of is not compared."""
+        self.counts['calls of ' + function] += 1
+        compared(RESULTS[function], due, got)
+        self.answers[function, got[0]] += 1
 
     def case(self, case, rng):
         """All numbers with all rooms that matter; of a light case some."""
         _, found = texts.opened(case.kind, case.file[:case.length])
+        self.right.lend(case)
         self.callee.lend(case)
         self.counts['cases'] += 1
         if self.callee.text_of:
@@ -222,7 +231,7 @@ def telling(judge, seed, chosen):
 
 
 def decoders(seed):
-    """The model's UTF-8 and UTF-16 against Python's own: how many strings they agree on."""
+    """The model's UTF-8 and UTF-16 against Python's own; what they agree on."""
     rng = random.Random('%s/decoders' % seed)
     for _ in range(20000):
         some = [0x41, 0x7F, 0x80, 0x8F, 0x9F, 0xA0, 0xBF, 0xC2, 0xE0, 0xED, 0xEF, 0xF0, 0xF4, rng.randrange(256)]
@@ -239,27 +248,27 @@ def decoders(seed):
         wide = b''.join(unit.to_bytes(2, 'little') for unit in units).decode('utf-16-le', 'replace').encode('utf-8')
         if own != pythons or texts.to_utf8(texts.of_units(units)) != wide:
             sys.exit('the judge is not at one with Python: %s, %s' % (data, units))
-    return 20000
+    return '20000 strings as Python decodes them'
 
 
-def tell_wrong_models(seed, shown):
+def tell_wrong_models(judge, seed, shown):
     """How many are missed."""
-    chosen = [*cases.made(seed), *(cases.generated(seed, i) for i in range(TOLD_BY))]
+    chosen = [*judge.cases.made(seed), *(judge.cases.generated(seed, i) for i in range(TOLD_BY))]
     # In any order, as a wrong model may be told by one family only.
     random.Random(seed).shuffle(chosen)
-    right = Judge(Modelled(texts))
+    right = judge(judge.modelled(judge.model))
     for case in chosen:
         if tried(right, seed, case):
             sys.exit('the judge is not at one with itself: %s, %s' % (case.name, right.call))
-    source = Path(texts.__file__).read_text()
+    source = Path(judge.model.__file__).read_text()
     missed = 0
-    for (what, old, new), functions in texts_wrong.EDITS:
+    for (what, old, new), functions in judge.edits:
         module = misreadings.edited(source, old, new)
-        told = [telling(Judge(Modelled(module, [name])), seed, chosen) for name in functions]
+        told = [telling(judge(judge.modelled(module, [name])), seed, chosen) for name in functions]
         missed += not all(told)
         if shown or not all(told):
             print('%-45s %s' % (what, '   '.join('%s: %s' % t if t else 'MISSED' for t in told)))
-    print('%d wrong models, %d missed; %d strings as Python decodes them' % (len(texts_wrong.EDITS), missed, decoders(seed)))
+    print('%d wrong models, %d missed' % (len(judge.edits), missed))
     return missed
 
 
@@ -269,7 +278,7 @@ def report(options, judge, case, fault):
     what, due, got = fault.args
     folder = Path(options.saved)
     folder.mkdir(parents=True, exist_ok=True)
-    file = folder / ('texts-%s.bytes' % re.sub('[^A-Za-z0-9]+', '-', case.name))
+    file = folder / ('%s-%s.bytes' % (judge.name, re.sub('[^A-Za-z0-9]+', '-', case.name)))
     file.write_bytes(case.file)
     print('FAULT in %s, seed %s, kind %d, %s: %s\n  due %s\n  got %s\n  bytes saved %s (%d, of which %d told)'
           % (case.name, options.seed, case.kind, judge.call, what, due, got, file, len(case.file), case.length))
@@ -285,16 +294,16 @@ def missing(library):
     return faults
 
 
-def judged(options):
+def judged(judge, options):
     begun = time.monotonic()
     try:
         library = Library(options.library)
     except OSError as error:
         print('FAULT: the library cannot be loaded: %s' % error)
         return 1
-    judge, faults = Judge(library), missing(library)
+    judge, faults = judge(library), missing(library)
     numbers = range(options.first, options.first + options.cases)
-    for case in itertools.chain(cases.made(options.seed), (cases.generated(options.seed, i) for i in numbers)):
+    for case in itertools.chain(judge.cases.made(options.seed), (judge.cases.generated(options.seed, i) for i in numbers)):
         fault = tried(judge, options.seed, case)
         if fault:
             report(options, judge, case, fault)
@@ -308,8 +317,8 @@ def judged(options):
     return faults
 
 
-def parsed():
-    p = argparse.ArgumentParser(description=__doc__)
+def parsed(about):
+    p = argparse.ArgumentParser(description=about)
     p.add_argument('--library', metavar='FILE', default=str(ROOT / 'target/lib/libchemstation.so'), help='the shared library')
     p.add_argument('--selftest', action='store_true', help='only shows, without a library, by what each wrong model is told')
     p.add_argument('--seed', default='1')
@@ -319,16 +328,18 @@ def parsed():
     return p.parse_args()
 
 
-def main():
-    options = parsed()
+def main(judge, about, agreed):
+    """agreed: holds the model to another method, and says on what."""
+    options = parsed(about)
     # A library that crashes is to be seen to do so.
     faulthandler.enable()
-    faults = tell_wrong_models(options.seed, options.selftest)
+    print(agreed(options.seed))
+    faults = tell_wrong_models(judge, options.seed, options.selftest)
     if not options.selftest:
-        faults += judged(options)
+        faults += judged(judge, options)
     print('%d faults' % faults if faults else 'no fault')
     return 1 if faults else 0
 
 
 if __name__ == '__main__':
-    sys.exit(main())
+    sys.exit(main(Judge, __doc__, decoders))

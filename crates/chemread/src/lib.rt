@@ -12,8 +12,8 @@ ghost use mathlib.Core.Bool.{true};
 ghost use Rattle.rules.specs.Rule.{read};
 ghost use Rattle.error.specs.Number.{stopOf, stopNumber, closingNumber};
 ghost use Rattle.metadata.specs.Metadata.{openRule};
-ghost use Rattle.fetch.specs.Fetch.{fetchRule};
-ghost use Rattle.texts.specs.Eight.{eightRule, lentTexts};
+ghost use Rattle.fetch.specs.Fetch.{fetchRule, passed};
+ghost use Rattle.texts.specs.Eight.{eightRule, lentTexts, allPassed};
 ghost use Rattle.reader.specs.Columns.{lentColumns, closingOf};
 ghost use Rattle.chemread.specs.Lent.{headerOf, correctionsOf, lentRun, OpensInto, lentText, FetchesInto, TextsInto, lentFilling, FillsInto, SumsInto};
 ghost use Rattle.sums.specs.Sums.{totalFrom};
@@ -112,7 +112,7 @@ pub extern "C" fn chemstation_open(
 
 // ---- Fetch a text
 
-// A text by its number, from the bytes of a whole file. A refusal writes nothing.
+// A text by its number, from the bytes of a whole file. A refusal writes nothing of it; the units replaced, 0 on a refusal, are written always.
 #[no_mangle]
 pub extern "C" fn chemstation_text(
     kind: u8,
@@ -120,10 +120,15 @@ pub extern "C" fn chemstation_text(
     s: &[u8],
     out: &mut [u8],
     length: &mut usize,
+    replaced: &mut usize,
 ) -> u8
-    ensures { λ r. ⌜ FetchesInto (read true (fetchRule kind number) (now (s .entry))) r (lentText out length) ⌝ }
+    ensures text { λ r. ⌜ FetchesInto (read true (fetchRule kind number) (now (s .entry))) r (lentText out length) ⌝ }
+    ensures count { λ r. ⌜ now (replaced .exit) ≡ passed kind number (now (out .entry)) (now (s .entry)) ⌝ }
 {
-    match fetch::fetch_text(kind, number, s, out) {
+    let t = fetch::fetch_text(kind, number, s, out);
+    *replaced = t.replaced;
+    let answer = t.answer;
+    match answer {
         Fetched::Refused(r) => error::number_of(r),
         Fetched::Text(n) => {
             *length = n;
@@ -132,7 +137,8 @@ pub extern "C" fn chemstation_text(
     }
 }
 
-// All eight texts, one behind the other in one buffer, from the bytes of a whole file. A refusal writes nothing.
+// All eight texts, one behind the other in one buffer, from the bytes of a whole file. A refusal writes nothing of them; the units replaced in
+// each, 0s on a refusal, are written always.
 #[no_mangle]
 pub extern "C" fn chemstation_texts(
     kind: u8,
@@ -140,10 +146,16 @@ pub extern "C" fn chemstation_texts(
     out: &mut [u8],
     starts: &mut [usize; 8],
     lengths: &mut [usize; 8],
+    replaced: &mut [usize; 8],
 ) -> u8
-    ensures { λ r. ⌜ TextsInto (read true (eightRule kind) (now (s .entry))) r (lentTexts out starts lengths) ⌝ }
+    ensures texts { λ r. ⌜ TextsInto (read true (eightRule kind) (now (s .entry))) r (lentTexts out starts lengths) ⌝ }
+    ensures counts { λ r. ⌜ now (replaced .exit) ≡ allPassed kind (now (out .entry)) (now (s .entry)) ⌝ }
 {
-    match texts::fetch_texts(kind, s, out, starts, lengths) {
+    let t = texts::fetch_texts(kind, s, out, starts, lengths);
+    let each = t.replaced;
+    *replaced = each;
+    let answer = t.answer;
+    match answer {
         Fetched::Refused(r) => error::number_of(r),
         Fetched::Text(_) => GIVEN,
     }

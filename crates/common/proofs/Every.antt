@@ -73,6 +73,14 @@ every-may-end (at-field e) = at-field e
 every-may-end at-refuses = at-refuses
 every-may-end at-ends = at-ends
 
+-- ---- any rule
+
+pub any-outcome : {A : Type 0} (r : Rule A) → Every (λ _. Unit {0}) r
+any-outcome (gives a) = at-gives tt
+any-outcome (field may w k) = at-field λ bs _ _. any-outcome (k bs)
+any-outcome (refuses c) = at-refuses
+any-outcome ends = at-ends
+
 -- ---- a field, whatever it says, or by how large a number it is
 
 pub any : {A : Type 0} {w : ℕ} {g : List ℕ → A} → Every (λ _. Unit) (bytesAs w g)

@@ -1,7 +1,7 @@
 -- How large a number in bytes is: once for every width, and for both byte orders.
 use mathlib.Core.Path.{_≡_, refl, subst}
 use mathlib.Core.Bool.{Bool, true, false, cond}
-use mathlib.Core.List.{List, [], _∷_, reverse, reverseAux}
+use mathlib.Core.List.{List, [], _∷_, _++_, reverse, reverseAux}
 use Prim.Native.Nat.{ℕ, zero, suc, _-_, _*_, _^_, _≤_, _<_}
 use native.Mathlib.Nat.{pow-succ', two-pow-succ}
 use native.Mathlib.Omega.{arith}
@@ -30,6 +30,11 @@ unfolding AreBytes
 bytes-drop zero bs h = h
 bytes-drop (suc w) [] h = h
 bytes-drop (suc w) (b ∷ bs) h = bytes-drop w bs (h .1)
+
+pub bytes-append : (bs cs : List ℕ) → AreBytes bs → AreBytes cs → AreBytes (bs ++ cs)
+unfolding AreBytes
+bytes-append [] cs h g = g
+bytes-append (b ∷ bs) cs h g = (h .0, bytes-append bs cs (h .1) g)
 
 bytes-reverse : (bs rs : List ℕ) → AreBytes bs → AreBytes rs → AreBytes (reverseAux bs rs)
 unfolding AreBytes

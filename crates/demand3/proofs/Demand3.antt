@@ -3,9 +3,8 @@ use mathlib.Core.Path.{refl}
 use mathlib.Core.Bool.{Bool, true, false, cond}
 use Prim.Native.Nat.{ℕ}
 use lib.Dec.{eqb}
-use Rattle.rules.specs.Rule.{Rule, gives, field, refuses, ends}
 use Rattle.rules.proofs.Demand.{demand}
-use Rattle.common.proofs.Every.{Every, at-gives, at-field, at-refuses, at-ends, every-then}
+use Rattle.common.proofs.Every.{Every, at-gives, every-then, any-outcome}
 use Rattle.metadata.specs.Metadata.{Header, openRule}
 use Rattle.chemstation.specs.Next.{rule}
 use Rattle.whole.specs.Readings.{Begins}
@@ -13,12 +12,6 @@ use Rattle.streams.specs.declared.State.{State}
 use Rattle.whole.proofs.Exactly.{exact-calls}
 use Rattle.opening.specs.Opening.{begins, startRule}
 use Rattle.demand3.specs.Demand3.{Demand3Holds}
-
-any-outcome : {A : Type 0} (r : Rule A) → Every (λ _. Unit {0}) r
-any-outcome (gives a) = at-gives tt
-any-outcome (field may w k) = at-field λ bs _ _. any-outcome (k bs)
-any-outcome (refuses c) = at-refuses
-any-outcome ends = at-ends
 
 -- a state before the first record, by the tests on the kind
 begun-by : (b : Bool) {st : State} (other : State) → Begins st → Begins other → Begins (cond b st other)

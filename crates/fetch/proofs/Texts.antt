@@ -15,7 +15,7 @@ use Rattle.rules.specs.Rule.{gives}
 use Rattle.common.specs.Bytes.{part}
 use Rattle.agilent.proofs.HeaderLaws.{part-take}
 use Rattle.utf8.specs.Utf8.{encodes, decode}
-use Rattle.utf16.specs.Utf16.{utf16, utf8Of}
+use Rattle.utf16.specs.Utf16.{units, utf16, utf8Of, unpaired}
 use Rattle.trim.specs.WhiteSpace.{trimmedOf}
 use Rattle.trim.specs.declared.Trimmed.{Trimmed}
 use Rattle.trim.specs.declared.Trimmed.the-variants.{NotUtf8, At}
@@ -29,74 +29,87 @@ use Rattle.metadata.specs.declared.ChemstationMetadata.{ChemstationMetadata}
 use Rattle.layouts.specs.Table.{fieldOf}
 use Rattle.pascal.specs.Texts.{Place, placeAt, trimmedFrom, pascal, textRule, reach}
 use Rattle.metadata.specs.Metadata.{metadataRule}
-use Rattle.fetch.specs.Fetch.{trimmedText, textOf}
+use Rattle.fetch.specs.Fetch.{trimmedText, textOf, replacedIn}
 use Rattle.layouts.proofs.Tables.{suits, field-suits}
 use Rattle.metadata.proofs.Orderly.{Orderly, giving, refusing, outcome, then, checked}
 use Rattle.metadata.proofs.HeaderReads.{placeOf, metadata-orderly}
 
--- at the place p of h stands what means t
-pub record Holds (h : List ℕ) (p : Place) (means : List ℕ → List ℕ) (t : List ℕ) : Type 0 where
+-- at the place p of h stand the bytes t
+pub record Holds (h : List ℕ) (p : Place) (t : List ℕ) : Type 0 where
   pub inside : p .start + p .bytes ≤ length h
-  pub text : means (part (p .start) (p .bytes) h) ≡ t
+  pub bytes : part (p .start) (p .bytes) h ≡ t
 
 -- a place is 0, 0 where nothing stands
-place-holds : (h : List ℕ) (means : List ℕ → List ℕ) (at n : ℕ) → n ≤ length h - at → Holds h (placeAt at n) means (means (part at n h))
-place-holds h means at n l =
-    by (eqb n 0) (λ t. rw (t, eqb-true n 0 t) (record { inside = omega arith; text = refl }))
-    λ f. let z = eqb-false n 0 f in rw f (record { inside = omega arith; text = refl })
+place-holds : (h : List ℕ) (at n : ℕ) → n ≤ length h - at → Holds h (placeAt at n) (part at n h)
+place-holds h at n l =
+    by (eqb n 0) (λ t. rw (t, eqb-true n 0 t) (record { inside = omega arith; bytes = refl }))
+    λ f. let z = eqb-false n 0 f in rw f (record { inside = omega arith; bytes = refl })
 
 -- ---- a text of an old edition
-
-abbrev same : List ℕ → List ℕ
-same bs = bs
 
 module _ (h : List ℕ) (start : ℕ) where
   abbrev raw : List ℕ
   raw = part (start + 1) (getD h start 0) h
 
-  trimmed-holds : (p n : ℕ) → trimmedOf raw ≡ At p n → Holds h (placeAt (start + 1 + p) n) same (trimmedText (decode raw))
+  trimmed-holds : (p n : ℕ) → trimmedOf raw ≡ At p n → Holds h (placeAt (start + 1 + p) n) (trimmedText (decode raw))
   trimmed-holds p n e =
       let s = stands-at raw p n e in
       let i = inside-bounds s in
-      let x = place-holds h same (start + 1 + p) n (omega (arith, length-take (getD h start 0) (drop (start + 1) h), length-drop (start + 1) h)) in
+      let x = place-holds h (start + 1 + p) n (omega (arith, length-take (getD h start 0) (drop (start + 1) h), length-drop (start + 1) h)) in
       record {
         inside = x .inside;
-        text =
-            x .text ∙ ap (take n) (sym (drop-drop p (start + 1) h)) ∙ sym (part-take p n (getD h start 0) (drop (start + 1) h) i)
+        bytes =
+            x .bytes ∙ ap (take n) (sym (drop-drop p (start + 1) h)) ∙ sym (part-take p n (getD h start 0) (drop (start + 1) h) i)
             ∙ holds-text s ∙ sym (ap trimmedText (exactly raw (s .scalars) .1 (s .utf8)));
       }
 
-nothing-holds : (h : List ℕ) → Holds h (placeAt 0 0) same []
-nothing-holds h = record { inside = omega arith; text = refl }
+nothing-holds : (h : List ℕ) → Holds h (placeAt 0 0) []
+nothing-holds h = record { inside = omega arith; bytes = refl }
 
 -- ---- each text
 
--- the bytes at its place as a text: old ones as they are
-abbrev pub asText : TextField → List ℕ → List ℕ
-asText Absent bs = bs
-asText (Pascal start width) bs = bs
-asText (PascalToEnd start) bs = bs
-asText (Utf16 start) bs = utf8Of bs
+-- its bytes in the header: old ones trimmed, new ones as they are
+abbrev pub stored : TextField → List ℕ → List ℕ
+stored Absent h = []
+stored (Pascal start width) h = trimmedText (decode (raw h start))
+stored (PascalToEnd start) h = trimmedText (decode (raw h start))
+stored (Utf16 start) h = part (start + 1) (2 * getD h start 0) h
 
 -- old editions hold UTF-8, and new ones UTF-16; a text that an edition lacks is empty in both
-as-it-is : (f : TextField) (e : ℕ) (h bs : List ℕ) → e ≤ 102 → suits f e ≡ true → asText f bs ≡ textOf f h → bs ≡ textOf f h
-as-it-is Absent e h bs l s t = t
-as-it-is (Pascal start width) e h bs l s t = t
-as-it-is (PascalToEnd start) e h bs l s t = t
-as-it-is (Utf16 start) e h bs l s t = absurd (omega (arith, ltb-true 102 e s))
+as-it-is : (f : TextField) (e : ℕ) (h : List ℕ) → e ≤ 102 → suits f e ≡ true → stored f h ≡ textOf f h
+unfolding textOf
+as-it-is Absent e h l s = refl
+as-it-is (Pascal start width) e h l s = refl
+as-it-is (PascalToEnd start) e h l s = refl
+as-it-is (Utf16 start) e h l s = absurd (omega (arith, ltb-true 102 e s))
 
-as-units : (f : TextField) (e : ℕ) (h bs : List ℕ) → 102 < e → suits f e ≡ true → asText f bs ≡ textOf f h → utf8Of bs ≡ textOf f h
+as-units : (f : TextField) (e : ℕ) (h : List ℕ) → 102 < e → suits f e ≡ true → utf8Of (stored f h) ≡ textOf f h
 unfolding textOf utf8Of utf16 encodes
-as-units Absent e h bs l s t = ap utf8Of t
-as-units (Pascal start width) e h bs l s t = absurd (omega (arith, leb-true e 102 s))
-as-units (PascalToEnd start) e h bs l s t = absurd (omega (arith, leb-true e 102 s))
-as-units (Utf16 start) e h bs l s t = t
+as-units Absent e h l s = refl
+as-units (Pascal start width) e h l s = absurd (omega (arith, leb-true e 102 s))
+as-units (PascalToEnd start) e h l s = absurd (omega (arith, leb-true e 102 s))
+as-units (Utf16 start) e h l s = refl
+
+-- of old ones no unit is replaced
+none-replaced : (f : TextField) (e : ℕ) (h : List ℕ) → e ≤ 102 → suits f e ≡ true → 0 ≡ replacedIn f h
+unfolding replacedIn
+none-replaced Absent e h l s = refl
+none-replaced (Pascal start width) e h l s = refl
+none-replaced (PascalToEnd start) e h l s = refl
+none-replaced (Utf16 start) e h l s = absurd (omega (arith, ltb-true 102 e s))
+
+units-replaced : (f : TextField) (e : ℕ) (h : List ℕ) → 102 < e → suits f e ≡ true → unpaired (units (stored f h)) ≡ replacedIn f h
+unfolding replacedIn unpaired
+units-replaced Absent e h l s = refl
+units-replaced (Pascal start width) e h l s = absurd (omega (arith, leb-true e 102 s))
+units-replaced (PascalToEnd start) e h l s = absurd (omega (arith, leb-true e 102 s))
+units-replaced (Utf16 start) e h l s = refl
 
 abbrev pub Found : TextField → List ℕ → Place → Type 0
-Found f h p = ((i : ℕ) → Fits w8 (getD h i 0)) → Holds h p (asText f) (textOf f h)
+Found f h p = ((i : ℕ) → Fits w8 (getD h i 0)) → Holds h p (stored f h)
 
--- a text of an old edition, which f reads as it is
-module _ (f : TextField) (h : List ℕ) (start : ℕ) (old : (p : Place) → Holds h p same (trimmedText (decode (raw h start))) → Found f h p) where
+-- a text of an old edition
+module _ (f : TextField) (h : List ℕ) (start : ℕ) (old : (p : Place) → Holds h p (trimmedText (decode (raw h start))) → Found f h p) where
   trimmed-found : (t : Trimmed) → trimmedOf (raw h start) ≡ t → Orderly false (Found f h) (trimmedFrom (start + 1) t)
   trimmed-found NotUtf8 e = refusing
   trimmed-found (At p n) e = giving (old (placeAt (start + 1 + p) n) (trimmed-holds h start p n e))
@@ -107,21 +120,20 @@ module _ (f : TextField) (h : List ℕ) (start : ℕ) (old : (p : Place) → Hol
 
 module _ (h : List ℕ) where
   found : (f : TextField) → reach f ≤ length h → Orderly false (Found f h) (textRule f h)
-  unfolding textRule textOf
+  unfolding textRule
   found Absent m = giving λ _. nothing-holds h
   found (Pascal start width) m = pascal-found (Pascal start width) h start (λ p x _. x) width
   found (PascalToEnd start) m = pascal-found (PascalToEnd start) h start (λ p x _. x) (length h - start)
-  found (Utf16 start) m = giving λ small. place-holds h utf8Of (start + 1) (2 * getD h start 0) (omega (arith, small start))
+  found (Utf16 start) m = giving λ small. place-holds h (start + 1) (2 * getD h start 0) (omega (arith, small start))
 
 -- the eight texts of a header
 each-found : (h : List ℕ) → Orderly false (λ d. (k : ℕ) → Found (fieldOf k (d .edition)) h (placeOf d k)) (metadataRule h)
-unfolding textOf
 each-found h = metadata-orderly h (λ f. Found f h) (found h) λ _. nothing-holds h
 
 -- ---- as the code takes them, from a start up to an end
 
 module _ (h : List ℕ) (d : ChemstationMetadata) (k : ℕ) (e : metadataRule h ≡ gives d) (small : (i : ℕ) → Fits w8 (getD h i 0)) where
-  there : Holds h (placeOf d k) (asText (fieldOf k (d .edition))) (textOf (fieldOf k (d .edition)) h)
+  there : Holds h (placeOf d k) (stored (fieldOf k (d .edition)) h)
   there = outcome _ (each-found h) e k small
 
   pub text-inside : getD (d .«text_starts») k 0 + getD (d .«text_lengths») k 0 ≤ length h
@@ -130,14 +142,17 @@ module _ (h : List ℕ) (d : ChemstationMetadata) (k : ℕ) (e : metadataRule h 
   abbrev bytes : List ℕ
   bytes = part (getD (d .«text_starts») k 0) (getD (d .«text_starts») k 0 + getD (d .«text_lengths») k 0 - getD (d .«text_starts») k 0) h
 
-  taken : asText (fieldOf k (d .edition)) bytes ≡ textOf (fieldOf k (d .edition)) h
-  taken = rw (add-sub-cancel-left (getD (d .«text_starts») k 0) (getD (d .«text_lengths») k 0)) (there .text)
+  taken : bytes ≡ stored (fieldOf k (d .edition)) h
+  taken = rw (add-sub-cancel-left (getD (d .«text_starts») k 0) (getD (d .«text_lengths») k 0)) (there .bytes)
 
   pub new-text : 102 < d .edition → utf8Of bytes ≡ textOf (fieldOf k (d .edition)) h
-  new-text l = as-units (fieldOf k (d .edition)) (d .edition) h bytes l (field-suits k (d .edition)) taken
+  new-text l = ap utf8Of taken ∙ as-units (fieldOf k (d .edition)) (d .edition) h l (field-suits k (d .edition))
+
+  pub new-units : 102 < d .edition → unpaired (units bytes) ≡ replacedIn (fieldOf k (d .edition)) h
+  new-units l = ap (λ (bs : List ℕ). unpaired (units bs)) taken ∙ units-replaced (fieldOf k (d .edition)) (d .edition) h l (field-suits k (d .edition))
 
   pub old-text : d .edition ≤ 102 → bytes ≡ textOf (fieldOf k (d .edition)) h
-  old-text l = as-it-is (fieldOf k (d .edition)) (d .edition) h bytes l (field-suits k (d .edition)) taken
+  old-text l = taken ∙ as-it-is (fieldOf k (d .edition)) (d .edition) h l (field-suits k (d .edition))
 
   -- no byte of a header makes more than two of a text
   pub text-bounded : length (textOf (fieldOf k (d .edition)) h) ≤ 2 * getD (d .«text_lengths») k 0
@@ -145,3 +160,6 @@ module _ (h : List ℕ) (d : ChemstationMetadata) (k : ℕ) (e : metadataRule h 
       let n = length-take (getD (d .«text_starts») k 0 + getD (d .«text_lengths») k 0 - getD (d .«text_starts») k 0) (drop (getD (d .«text_starts») k 0) h) in
       by (ltb 102 (d .edition)) (λ t. omega (arith, n, ap length (new-text (ltb-true 102 (d .edition) t)), twice bytes))
       λ t. omega (arith, n, ap length (old-text (ltb-false 102 (d .edition) t)))
+
+pub old-units : (k e : ℕ) (h : List ℕ) → e ≤ 102 → 0 ≡ replacedIn (fieldOf k e) h
+old-units k e h l = none-replaced (fieldOf k e) e h l (field-suits k e)

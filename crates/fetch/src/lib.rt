@@ -16,17 +16,34 @@ ghost use lib.ListN.{length, getD};
 ghost use Rattle.rules.specs.Rule.{gives, finished, got, read};
 ghost use Rattle.error.specs.Number.{numberOf, stopOf};
 ghost use Rattle.common.specs.Bytes.{part};
-ghost use Rattle.utf16.specs.Utf16.{utf8Of};
+ghost use Rattle.utf16.specs.Utf16.{units, utf8Of, unpaired};
 ghost use Rattle.written.specs.Written.{Puts};
 ghost use Rattle.layouts.specs.Table.{fieldOf};
 ghost use Rattle.metadata.specs.Metadata.{metadataRule};
-ghost use Rattle.fetch.specs.Fetch.{textOf, fetchRule, numberOfStop, Fetches};
+ghost use Rattle.fetch.specs.declared.Fetched.the-variants.{Refused};
+ghost use Rattle.fetch.specs.Fetch.{textOf, fetchRule, numberOfStop, outcomeOf, Fetches, replacedIn, passedOn, passed};
 
 // What Fetch a text answers.
 pub enum Fetched {
     // its length in bytes
     Text(usize),
     Refused(Refusal),
+}
+
+// The answer, and beside it how many units of the text were replaced by U+FFFD: 0 where it is refused.
+pub struct FetchedText {
+    pub answer: Fetched,
+    pub replaced: usize,
+}
+
+// A refusal passes 0.
+fn refused(r: Refusal) -> FetchedText
+    ensures { λ t. ⌜ (t .answer ≡ Refused r) × (t .replaced ≡ 0) ⌝ }
+{
+    FetchedText {
+        answer: Fetched::Refused(r),
+        replaced: 0,
+    }
 }
 
 // Whether n is from 1 to the most.
@@ -84,6 +101,7 @@ pub fn text_bytes(d: ChemstationMetadata, k: usize, h: &[u8]) -> &[u8]
     requires { ⌜ (k < 8) × (metadataRule (now h) ≡ gives d) ⌝ }
     ensures old { λ r. ⌜ (d .edition ≤ 102 → now r ≡ textOf (fieldOf k (d .edition)) (now (h .entry))) ⌝ }
     ensures new { λ r. ⌜ (102 < d .edition → utf8Of (now r) ≡ textOf (fieldOf k (d .edition)) (now (h .entry))) ⌝ }
+    ensures units { λ r. ⌜ (102 < d .edition → unpaired (units (now r)) ≡ replacedIn (fieldOf k (d .edition)) (now (h .entry))) ⌝ }
     ensures there { λ r. ⌜ now r ≡ part (getD (d .«text_starts») k 0) (getD (d .«text_lengths») k 0) (now (h .entry)) ⌝ }
 {
     let at = start_of(d, k);
@@ -92,32 +110,42 @@ pub fn text_bytes(d: ChemstationMetadata, k: usize, h: &[u8]) -> &[u8]
 }
 
 // The text of a number less one, of a header h that says d.
-fn fetch_from(d: ChemstationMetadata, k: usize, h: &[u8], out: &mut [u8]) -> Fetched
+fn fetch_from(d: ChemstationMetadata, k: usize, h: &[u8], out: &mut [u8]) -> FetchedText
     requires { ⌜ (k < 8) × (metadataRule (now h) ≡ gives d) ⌝ }
-    ensures { λ r. ⌜ Fetches r (now (out .entry)) (now (out .exit)) (got (textOf (fieldOf k (d .edition)) (now (h .entry))) (length (now (h .entry)))) ⌝ }
+    ensures text { λ r. ⌜ Fetches (r .answer) (now (out .entry)) (now (out .exit)) (got (textOf (fieldOf k (d .edition)) (now (h .entry))) (length (now (h .entry)))) ⌝ }
+    ensures replaced { λ r. ⌜ r .replaced ≡ passedOn (outcomeOf (r .answer)) (replacedIn (fieldOf k (d .edition)) (now (h .entry))) ⌝ }
 {
     let bytes = text_bytes(d, k, h);
     // the edition tells the encoding; a text that it lacks is empty in both
     if 102 < d.edition {
-        return answer_of(decode_utf16(bytes, out));
+        let t = decode_utf16(bytes, out);
+        let written = t.answer;
+        return FetchedText {
+            answer: answer_of(written),
+            replaced: t.replaced,
+        };
     }
-    answer_of(copy_text(bytes, out))
+    FetchedText {
+        answer: answer_of(copy_text(bytes, out)),
+        replaced: 0,
+    }
 }
 
-// A text by its number, from the bytes of a whole file.
-pub fn fetch_text(kind: u8, number: u8, s: &[u8], out: &mut [u8]) -> Fetched
-    ensures { λ r. ⌜ Fetches r (now (out .entry)) (now (out .exit)) (read true (fetchRule kind number) (now (s .entry))) ⌝ }
+// A text by its number, from the bytes of a whole file, and how many of its units were replaced.
+pub fn fetch_text(kind: u8, number: u8, s: &[u8], out: &mut [u8]) -> FetchedText
+    ensures text { λ r. ⌜ Fetches (r .answer) (now (out .entry)) (now (out .exit)) (read true (fetchRule kind number) (now (s .entry))) ⌝ }
+    ensures replaced { λ r. ⌜ r .replaced ≡ passed kind number (now (out .entry)) (now (s .entry)) ⌝ }
 {
     if !in_range(6, kind) {
-        return Fetched::Refused(Refusal::UnknownKind);
+        return refused(Refusal::UnknownKind);
     }
     if !in_range(8, number) {
-        return Fetched::Refused(Refusal::UnknownText);
+        return refused(Refusal::UnknownText);
     }
     let o = open_header(kind, s, true);
     let answer = o.answer;
     match answer {
-        Opened::Stopped(z) => Fetched::Refused(refusal_of(z)),
+        Opened::Stopped(z) => refused(refusal_of(z)),
         Opened::Header {
             size,
             scans: _,

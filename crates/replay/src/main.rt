@@ -107,7 +107,9 @@ fn put_text(kind: u8, number: u8, s: &[u8], lent: &mut [u8], out: &mut [u8], at:
     requires { ⌜ (at + 4096 ≤ length (now out)) × (length (now lent) ≤ 1024) ⌝ }
     ensures { λ r. ⌜ r ≤ length (now (out .entry)) ⌝ }
 {
-    match fetch_text(kind, number, s, lent) {
+    // the units replaced are no part of the original's answer
+    let answer = fetch_text(kind, number, s, lent).answer;
+    match answer {
         Fetched::Refused(r) => lines::put_end(out, at, Stopped::Refused(r), 0),
         Fetched::Text(n) => put_found(number, lent, n, out, at),
     }

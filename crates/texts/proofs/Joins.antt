@@ -16,9 +16,9 @@ use Rattle.metadata.specs.declared.ChemstationMetadata.{ChemstationMetadata}
 use Rattle.layouts.specs.Table.{fieldOf}
 use Rattle.layouts.proofs.Tables.{table}
 use Rattle.written.proofs.Puts.{paste-next}
-use Rattle.fetch.specs.Fetch.{textOf}
+use Rattle.fetch.specs.Fetch.{textOf, replacedIn}
 use Rattle.fetch.proofs.Texts.{text-bounded}
-use Rattle.texts.specs.Eight.{textsOf, joined, startsFrom, laidOut, storedBytes, Lays}
+use Rattle.texts.specs.Eight.{textsOf, joined, startsFrom, laidOut, countsOf, storedBytes, Lays}
 use Rattle.texts.specs.declared.Laid.{Laid}
 
 -- ---- the eight
@@ -31,6 +31,14 @@ module _ (e : ℕ) (h : List ℕ) where
   pub text-of : (k : ℕ) → k < 8 → getD (textsOf e h) k [] ≡ textOf (fieldOf k e) h
   unfolding textsOf
   text-of k l = table (textsOf e h) [] 8 (λ k. textOf (fieldOf k e) h) refl k l
+
+  pub eight-counts : length (countsOf e h) ≡ 8
+  unfolding countsOf
+  eight-counts = refl
+
+  pub count-of : (k : ℕ) → k < 8 → getD (countsOf e h) k 0 ≡ replacedIn (fieldOf k e) h
+  unfolding countsOf
+  count-of k l = table (countsOf e h) 0 8 (λ k. replacedIn (fieldOf k e) h) refl k l
 
 -- ---- the first k
 
@@ -139,53 +147,69 @@ put-behind d part t at n h e p =
 
 -- ---- laying them out
 
-pub record Laying (ts : List (List ℕ)) (old starts lengths new : List ℕ) (n k : ℕ) : Type 0 where
+-- the first k numbers of l are those of m
+pub record Listed (m l : List ℕ) (k : ℕ) : Type 0 where
+  pub same : take k l ≡ take k m
+  pub long : length l ≡ length m
+
+list-on : {m l : List ℕ} {k : ℕ} (x : ℕ) → Listed m l k → k < length m → x ≡ getD m k 0 → Listed m (set l k x) (k + 1)
+list-on {m} {l} {k} x g i e =
+    record {
+      same = rw add-one (take-suc-set l k x (omega (arith, g .long)) ∙ ap₂ (λ (r : List ℕ) (y : ℕ). r ++ y ∷ []) (g .same) e ∙ sym (take-suc m k 0 i));
+      long = length-set l k x ∙ g .long;
+    }
+
+listed : {m l : List ℕ} {k : ℕ} → Listed m l k → length m ≤ k → l ≡ m
+listed {m} {l} {k} g i = sym (take-all k l (omega (arith, g .long))) ∙ g .same ∙ take-all k m i
+
+pub record Laying (ts : List (List ℕ)) (cs old starts lengths replaced new : List ℕ) (n k : ℕ) : Type 0 where
   pub bytes : new ≡ before ts k ++ drop n old
   pub count : n ≡ length (before ts k)
-  pub first : take k starts ≡ take k (startsFrom 0 ts)
-  pub second : take k lengths ≡ take k (map length ts)
-  pub eight-starts : length starts ≡ length ts
-  pub eight-lengths : length lengths ≡ length ts
+  pub from : Listed (startsFrom 0 ts) starts k
+  pub of : Listed (map length ts) lengths k
+  pub counts : Listed cs replaced k
   pub room : k ≤ length ts
 
-pub lay-starts : (ts : List (List ℕ)) (old : List ℕ) → length ts ≡ 8 → Laying ts old (replicate 8 0) (replicate 8 0) old 0 0
+pub lay-starts : (ts : List (List ℕ)) (cs old : List ℕ) → length ts ≡ 8 → length cs ≡ 8 → Laying ts cs old (replicate 8 0) (replicate 8 0) (replicate 8 0) old 0 0
 unfolding before
-lay-starts ts old e = record { bytes = refl; count = refl; first = refl; second = refl; eight-starts = sym e; eight-lengths = sym e; room = omega arith }
+lay-starts ts cs old e f =
+    record {
+      bytes = refl;
+      count = refl;
+      from = record { same = refl; long = sym (length-starts ts 0 ∙ e) };
+      of = record { same = refl; long = sym (length-lengths ts ∙ e) };
+      counts = record { same = refl; long = sym f };
+      room = omega arith;
+    }
 
--- one number more
-next : (l m : List ℕ) (k x : ℕ) → k < length l → k < length m → take k l ≡ take k m → x ≡ getD m k 0 → take (k + 1) (set l k x) ≡ take (k + 1) m
-next l m k x p q e f =
-    rw add-one (take-suc-set l k x p ∙ ap₂ (λ (r : List ℕ) (y : ℕ). r ++ y ∷ []) e f ∙ sym (take-suc m k 0 q))
-
-pub same-room : {ts : List (List ℕ)} {old starts lengths new : List ℕ} {n k : ℕ} → Laying ts old starts lengths new n k → length (joined ts) ≤ length old → length new ≡ length old
-same-room {ts} {old} {n = n} {k = k} g h =
+pub same-room : {ts : List (List ℕ)} {cs old starts lengths replaced new : List ℕ} {n k : ℕ} → Laying ts cs old starts lengths replaced new n k → length (joined ts) ≤ length old → length new ≡ length old
+same-room {ts} {old = old} {n = n} {k = k} g h =
     omega (arith, ap length (g .bytes), length-append (before ts k) (drop n old), length-drop n old, g .count, reaches ts k)
 
-module _ (ts : List (List ℕ)) (old starts lengths new : List ℕ) (n k : ℕ) (g : Laying ts old starts lengths new n k) (l : k < length ts) (t : List ℕ) (is : getD ts k [] ≡ t) where
+module _ (ts : List (List ℕ)) (cs old starts lengths replaced new : List ℕ) (n k : ℕ) (g : Laying ts cs old starts lengths replaced new n k) (l : k < length ts) (t : List ℕ) (is : getD ts k [] ≡ t) where
   pub lay-fits : length (joined ts) ≤ length old → n + length t ≤ length new
   lay-fits h = omega (arith, same-room g h, counts ts n k t (g .count) l is (length t) refl, reaches ts (k + 1))
 
-  pub lays-on : (m : ℕ) (now : List ℕ) → m ≡ length t → now ≡ paste new n t m → Laying ts old (set starts k n) (set lengths k m) now (n + m) (k + 1)
-  lays-on m now e p =
+  pub lays-on : (m c : ℕ) (now : List ℕ) → m ≡ length t → now ≡ paste new n t m → k < length cs → c ≡ getD cs k 0 → Laying ts cs old (set starts k n) (set lengths k m) (set replaced k c) now (n + m) (k + 1)
+  lays-on m c now e p i q =
       let more = grown ts k l ∙ ap (λ (r : List ℕ). before ts k ++ r) is in
       record {
         bytes =
             p ∙ ap₂ (λ (d : List ℕ) (j : ℕ). paste d n t j) (g .bytes) e ∙ paste-next old (before ts k) t n (g .count)
             ∙ ap₂ (λ (r : List ℕ) (j : ℕ). r ++ drop (n + j) old) (sym more) (sym e);
         count = omega (arith, g .count, e, ap length more, length-append (before ts k) t);
-        first = next starts (startsFrom 0 ts) k n (omega (arith, g .eight-starts)) (omega (arith, length-starts ts 0)) (g .first) (g .count ∙ sym (starts-at ts k l));
-        second = next lengths (map length ts) k m (omega (arith, g .eight-lengths)) (omega (arith, length-lengths ts)) (g .second) (e ∙ ap length (sym is) ∙ sym (length-at ts k));
-        eight-starts = length-set starts k n ∙ g .eight-starts;
-        eight-lengths = length-set lengths k m ∙ g .eight-lengths;
+        from = list-on n (g .from) (omega (arith, length-starts ts 0)) (g .count ∙ sym (starts-at ts k l));
+        of = list-on m (g .of) (omega (arith, length-lengths ts)) (e ∙ ap length (sym is) ∙ sym (length-at ts k));
+        counts = list-on c (g .counts) i q;
         room = omega arith;
       }
 
-pub laid : (ts : List (List ℕ)) (old starts lengths new : List ℕ) (n k : ℕ) → Laying ts old starts lengths new n k → length ts ≤ k
-    → Lays (record { starts = starts; lengths = lengths; count = n }) old new ts
-laid ts old starts lengths new n k g l =
+pub laid : (ts : List (List ℕ)) (cs old starts lengths replaced new : List ℕ) (n k : ℕ) → Laying ts cs old starts lengths replaced new n k → length ts ≤ k → length cs ≤ k
+    → Lays (record { starts = starts; lengths = lengths; replaced = replaced; count = n }) old new ts cs
+laid ts cs old starts lengths replaced new n k g l i =
     let all = all-before ts k l in
-    let from = sym (take-all k starts (omega (arith, g .eight-starts))) ∙ g .first ∙ take-all k (startsFrom 0 ts) (omega (arith, length-starts ts 0)) in
-    let of = sym (take-all k lengths (omega (arith, g .eight-lengths))) ∙ g .second ∙ take-all k (map length ts) (omega (arith, length-lengths ts)) in
+    let from = listed (g .from) (omega (arith, length-starts ts 0)) in
+    let of = listed (g .of) (omega (arith, length-lengths ts)) in
     let c = g .count ∙ ap length all in
     let b = g .bytes ∙ ap₂ (λ (r : List ℕ) (j : ℕ). r ++ drop j old) all c in
-    record { all = λ i. record { bytes = b i; starts = from i; lengths = of i }; count = c }
+    record { all = λ i. record { bytes = b i; starts = from i; lengths = of i }; count = c; replaced = listed (g .counts) i }

@@ -1,12 +1,12 @@
 -- The answers, by what the rule reads; and each text is Fetch's.
-use mathlib.Core.Path.{_≡_, refl, sym, ap, ap₂, _∙_}
+use mathlib.Core.Path.{_≡_, refl, sym, ap, ap₂, _∙_, subst}
 use mathlib.Core.Bool.{Bool, true, false, _&&_, cond, false≢true}
 use mathlib.Core.List.{List, [], _∷_, _++_, map, append-assoc}
 use Prim.Native.Nat.{ℕ, _+_, _-_, _≤_, _<_}
 use native.Mathlib.Omega.{arith}
 use denote.Triple.Both.{Both}
 use lib.Dec.{leb}
-use lib.ListN.{length, take, drop, getD, length-append}
+use lib.ListN.{length, take, drop, getD, replicate, length-append}
 use lib.Seq.{take-at, drop-at}
 use borrow.Author.Tests.{le-leb, lt-leb, leb-true}
 use borrow.Table.Steps.{cases as by}
@@ -22,10 +22,11 @@ use Rattle.metadata.specs.Metadata.{Header, openRule}
 use Rattle.metadata.proofs.Opens.{open-reads}
 use Rattle.fetch.specs.declared.Fetched.{Fetched}
 use Rattle.fetch.specs.declared.Fetched.the-variants.{Text, Refused}
-use Rattle.fetch.specs.Fetch.{textOf, fetchRule, Outcome, wrote, refuse, numberOfStop, outcomeOf, fetched, Fetches}
+use Rattle.fetch.specs.Fetch.{textOf, fetchRule, Outcome, wrote, refuse, numberOfStop, outcomeOf, fetched, Fetches, replacedBy, passedOn}
 use Rattle.fetch.proofs.Fetches.{textIn, fetch-unknown, fetch-opens}
 use Rattle.texts.specs.declared.Laid.{Laid}
-use Rattle.texts.specs.Eight.{textsOf, eightRule, joined, startsFrom, Texts, laidOut, textsAfter, textAt, FetchesAll, AsFetched, Lies, Lays}
+use Rattle.texts.specs.declared.FetchedTexts.{FetchedTexts}
+use Rattle.texts.specs.Eight.{numbers, textsOf, eightRule, joined, startsFrom, Texts, laidOut, textsAfter, textAt, FetchesAll, AsFetched, Lies, allPassed, countsOf, Lays}
 use Rattle.texts.proofs.Joins.{eight, text-of, before, none-before, grown, all-before, split-after, starts-at, length-at}
 
 -- ---- the answers
@@ -36,12 +37,16 @@ kept old = record { entry = old; exit = old }
 pub all-refused : (old : Texts) (ts : List (List ℕ)) (n : ℕ) → length (old .bytes) < length (joined ts) → FetchesAll (Refused LentLength) (kept old) (got ts n)
 all-refused old ts n h = record { answer = simp (lt-leb _ _ h); memory = simp (lt-leb _ _ h) }
 
-pub all-laid : (old : Texts) (ts : List (List ℕ)) (n : ℕ) (l : Laid) (new : List ℕ) → length (joined ts) ≤ length (old .bytes) → Lays l (old .bytes) new ts
+pub all-laid : (old : Texts) (ts : List (List ℕ)) (cs : List ℕ) (n : ℕ) (l : Laid) (new : List ℕ) → length (joined ts) ≤ length (old .bytes) → Lays l (old .bytes) new ts cs
     → FetchesAll (Text (l .count)) (record { entry = old; exit = record { bytes = new; starts = l .starts; lengths = l .lengths } }) (got ts n)
-all-laid old ts n l new h p = record { answer = simp (le-leb _ _ h) (ap wrote (p .count)); memory = simp (le-leb _ _ h) (p .all) }
+all-laid old ts cs n l new h p = record { answer = simp (le-leb _ _ h) (ap wrote (p .count)); memory = simp (le-leb _ _ h) (p .all) }
 
 pub all-stopped : (old : Texts) {r : Refusal} {z : Stop} {x : Read (List (List ℕ))} → x ≡ stops z → numberOf r ≡ numberOfStop z → FetchesAll (Refused r) (kept old) x
 all-stopped old e n = rw e (record { answer = ap refuse n; memory = refl })
+
+-- a refusal as the code has it
+pub answered : (t : FetchedTexts) {r : Fetched} {m : Both Texts Texts} {x : Read (List (List ℕ))} → t .answer ≡ r → FetchesAll r m x → FetchesAll (t .answer) m x
+answered t {m = m} {x} e f = subst (λ (a : Fetched). FetchesAll a m x) (sym e) f
 
 -- how many bytes were read does not matter
 pub all-text : {r : Fetched} {m : Both Texts Texts} {ts : List (List ℕ)} {j n : ℕ} {x : Read (List (List ℕ))} → x ≡ got ts j → FetchesAll r m (got ts n) → FetchesAll r m x
@@ -55,6 +60,33 @@ textsIn x = textsOf (x .says .edition) (x .bytes)
 pub eight-opens : (kind : ℕ) (s : List ℕ) → read true (eightRule kind) s ≡ mapRead textsIn (read true (openRule kind) s)
 unfolding eightRule
 eight-opens kind s = read-map true textsIn (openRule kind) s
+
+-- ---- the numbers beside the answer
+
+pub counts-kept : (e n : ℕ) (h : List ℕ) → countsOf e h ≡ map (passedOn (wrote n)) (countsOf e h)
+unfolding countsOf
+counts-kept e n h = refl
+
+-- of a refusal each is 0
+pub counts-dropped : (e : ℕ) (h : List ℕ) (a : Fetched) {r : Refusal} → a ≡ Refused r → replicate 8 0 ≡ map (passedOn (outcomeOf a)) (countsOf e h)
+unfolding countsOf
+counts-dropped e h a p = rw p
+
+module _ (kind : ℕ) (s : List ℕ) where
+  -- by the answer and what Open reads
+  abbrev given : Outcome → Read Header → List ℕ
+  given o x = map (λ number. passedOn o (replacedBy number x)) numbers
+
+  pub all-passed : {r : Fetched} {m : Both Texts Texts} → FetchesAll r m (read true (eightRule kind) s) → given (outcomeOf r) (read true (openRule kind) s) ≡ allPassed kind (m .entry .bytes) s
+  unfolding allPassed
+  all-passed f = ap (λ (o : Outcome). given o (read true (openRule kind) s)) (f .answer)
+
+  pub none-passed : (a : Fetched) {r : Refusal} → a ≡ Refused r → replicate 8 0 ≡ given (outcomeOf a) (read true (openRule kind) s)
+  none-passed a p = rw p
+
+  pub some-passed : (o : Outcome) (x : Header) (n : ℕ) → read true (openRule kind) s ≡ got x n → map (passedOn o) (countsOf (x .says .edition) (x .bytes)) ≡ given o (read true (openRule kind) s)
+  unfolding countsOf
+  some-passed o x n e = rw e
 
 -- ---- each text is Fetch's
 

@@ -1,17 +1,17 @@
 -- All eight texts of a run at once, one behind the other. What each of them is, Fetch says (fetch/Fetch).
 use mathlib.Core.Path.{_≡_}
-use mathlib.Core.Bool.{cond}
+use mathlib.Core.Bool.{true, cond}
 use mathlib.Core.List.{List, [], _∷_, _++_, map}
 use Prim.Native.Nat.{ℕ, zero, suc, _+_, _-_, _<_}
 use lib.Dec.{leb}
 use lib.ListN.{length, drop, getD}
 use denote.Ref.{RefT, now}
 use denote.Triple.Both.{Both}
-use Rattle.rules.specs.Rule.{Rule, gives, _>>=_, Read, got, stops, mapRead}
+use Rattle.rules.specs.Rule.{Rule, gives, _>>=_, Read, got, stops, read, mapRead}
 use Rattle.layouts.specs.Table.{fieldOf}
 use Rattle.metadata.specs.Metadata.{openRule}
 use Rattle.common.specs.Bytes.{part}
-use Rattle.fetch.specs.Fetch.{textOf, wrote, refuse, fetched, outcomeOf, Fetches}
+use Rattle.fetch.specs.Fetch.{textOf, wrote, refuse, fetched, outcomeOf, Fetches, replacedIn, replacedBy, passedOn}
 use Rattle.metadata.specs.declared.ChemstationMetadata.{ChemstationMetadata}
 use Rattle.fetch.specs.declared.Fetched.{Fetched}
 use Rattle.texts.specs.declared.Laid.{Laid}
@@ -84,14 +84,25 @@ pub record Lies (r : Fetched) (m : Both Texts Texts) : Type 0 where
   pub count : (n : ℕ) → outcomeOf r ≡ wrote n → n ≡ getD (m .exit .starts) 7 0 + getD (m .exit .lengths) 7 0
   pub rest : (n : ℕ) → outcomeOf r ≡ wrote n → drop n (m .exit .bytes) ≡ drop n (m .entry .bytes)
 
+-- ---- Units that were replaced.
+
+-- beside the answer, of each text what Fetch passes of it; of none where they are refused. By the lent buffer before and the bytes of the file
+unfoldable pub allPassed : ℕ → List ℕ → List ℕ → List ℕ
+allPassed kind old s = map (λ number. passedOn (fetched (length old) (mapRead joined (read true (eightRule kind) s))) (replacedBy number (read true (openRule kind) s))) numbers
+
 -- ---- Steps of the code.
+
+-- the units replaced in each text of a header h of edition e, by their numbers
+unfoldable pub countsOf : ℕ → List ℕ → List ℕ
+countsOf e h = map (λ number. replacedIn (fieldOf (number - 1) e) h) numbers
 
 -- the bytes that the first k texts take in the header
 abbrev pub storedBytes : ChemstationMetadata → ℕ → ℕ
 storedBytes d zero = 0
 storedBytes d (suc k) = storedBytes d k + getD (d .«text_lengths») k 0
 
--- the texts ts were laid out in a buffer that had room for them
-pub record Lays (r : Laid) (old new : List ℕ) (ts : List (List ℕ)) : Type 0 where
+-- the texts ts, with their counts, were laid out in a buffer that had room for them
+pub record Lays (r : Laid) (old new : List ℕ) (ts : List (List ℕ)) (counts : List ℕ) : Type 0 where
   pub all : (record { bytes = new; starts = r .starts; lengths = r .lengths }) ≡ laidOut ts old
   pub count : r .count ≡ length (joined ts)
+  pub replaced : r .replaced ≡ counts

@@ -7,31 +7,50 @@ use fetch::text_bytes;
 use metadata::ChemstationMetadata;
 use metadata::Opened;
 use metadata::open_header;
+use utf16::Recoded;
 use utf16::measured;
 use utf16::recode;
 use written::Written;
 use written::put;
 ghost use mathlib.Core.Path.{_≡_};
 ghost use mathlib.Core.Bool.{true};
-ghost use mathlib.Core.List.{List, []};
+ghost use mathlib.Core.List.{List, [], map};
 ghost use Prim.Native.Nat.{ℕ, _+_, _-_, _≤_, _<_};
 ghost use lib.Dec.{leb};
-ghost use lib.ListN.{length, getD};
+ghost use lib.ListN.{length, getD, replicate};
 ghost use lib.Seq.{paste};
 ghost use denote.Triple.Both.{Both};
 ghost use Rattle.fetch.specs.declared.Fetched.{Fetched};
+ghost use Rattle.fetch.specs.declared.Fetched.the-variants.{Refused};
 ghost use Rattle.rules.specs.Rule.{gives, got, read, mapRead};
 ghost use Rattle.written.specs.Written.{written};
 ghost use Rattle.layouts.specs.Table.{fieldOf};
 ghost use Rattle.metadata.specs.Metadata.{metadataRule};
-ghost use Rattle.fetch.specs.Fetch.{textOf, fetchRule, Fetches};
-ghost use Rattle.texts.specs.Eight.{textsOf, eightRule, joined, Texts, lentTexts, FetchesAll, AsFetched, Lies, storedBytes, Lays};
+ghost use Rattle.fetch.specs.Fetch.{textOf, fetchRule, outcomeOf, Fetches, replacedIn, passedOn};
+ghost use Rattle.texts.specs.Eight.{textsOf, eightRule, joined, Texts, lentTexts, FetchesAll, AsFetched, Lies, allPassed, countsOf, storedBytes, Lays};
 
-// Where the texts start in the lent buffer, their lengths, and the bytes that they take together.
+// The answer, and beside it how many units of each text were replaced by U+FFFD: 0s where they are refused.
+pub struct FetchedTexts {
+    pub answer: Fetched,
+    pub replaced: [usize; 8],
+}
+
+// Where the texts start in the lent buffer, their lengths, the units replaced in each, and the bytes that they take together.
 struct Laid {
     pub starts: [usize; 8],
     pub lengths: [usize; 8],
+    pub replaced: [usize; 8],
     pub count: usize,
+}
+
+// A refusal passes 0s.
+fn refused(r: Refusal) -> FetchedTexts
+    ensures { λ t. ⌜ (t .answer ≡ Refused r) × (t .replaced ≡ replicate 8 0) ⌝ }
+{
+    FetchedTexts {
+        answer: Fetched::Refused(r),
+        replaced: [0usize; 8],
+    }
 }
 
 // The length of a text in bytes, by its number less one, if there is room for it.
@@ -50,11 +69,12 @@ fn text_length(d: ChemstationMetadata, k: usize, h: &[u8], room: usize) -> Writt
     Written::Bytes(n)
 }
 
-// Puts a text at a place, and answers its length.
-fn put_text(d: ChemstationMetadata, k: usize, h: &[u8], out: &mut [u8], at: usize) -> usize
+// Puts a text at a place, and answers its length and how many of its units were replaced.
+fn put_text(d: ChemstationMetadata, k: usize, h: &[u8], out: &mut [u8], at: usize) -> Recoded
     requires { ⌜ (k < 8) × (metadataRule (now h) ≡ gives d) × (at + length (textOf (fieldOf k (d .edition)) (now h)) ≤ length (now out)) ⌝ }
-    ensures count { λ r. ⌜ r ≡ length (textOf (fieldOf k (d .edition)) (now (h .entry))) ⌝ }
-    ensures bytes { λ r. ⌜ now (out .exit) ≡ paste (now (out .entry)) at (textOf (fieldOf k (d .edition)) (now (h .entry))) r ⌝ }
+    ensures count { λ r. ⌜ r .bytes ≡ length (textOf (fieldOf k (d .edition)) (now (h .entry))) ⌝ }
+    ensures bytes { λ r. ⌜ now (out .exit) ≡ paste (now (out .entry)) at (textOf (fieldOf k (d .edition)) (now (h .entry))) (r .bytes) ⌝ }
+    ensures replaced { λ r. ⌜ r .replaced ≡ replacedIn (fieldOf k (d .edition)) (now (h .entry)) ⌝ }
 {
     let bytes = text_bytes(d, k, h);
     if 102 < d.edition {
@@ -62,7 +82,10 @@ fn put_text(d: ChemstationMetadata, k: usize, h: &[u8], out: &mut [u8], at: usiz
     }
     let n = bytes.len();
     put(bytes, n, out, at);
-    n
+    Recoded {
+        bytes: n,
+        replaced: 0,
+    }
 }
 
 // Whether so many bytes as the eight texts take in the header have room.
@@ -115,22 +138,25 @@ fn fit(d: ChemstationMetadata, h: &[u8], room: usize) -> bool
 // Puts the eight texts at the start of out, which has room for them.
 fn lay_out(d: ChemstationMetadata, h: &[u8], out: &mut [u8]) -> Laid
     requires { ⌜ (metadataRule (now h) ≡ gives d) × (length (joined (textsOf (d .edition) (now h))) ≤ length (now out)) ⌝ }
-    ensures { λ r. ⌜ Lays r (now (out .entry)) (now (out .exit)) (textsOf (d .edition) (now (h .entry))) ⌝ }
+    ensures { λ r. ⌜ Lays r (now (out .entry)) (now (out .exit)) (textsOf (d .edition) (now (h .entry))) (countsOf (d .edition) (now (h .entry))) ⌝ }
 {
     let mut starts = [0usize; 8];
     let mut lengths = [0usize; 8];
+    let mut replaced = [0usize; 8];
     let mut n: usize = 0;
     let mut k: usize = 0;
     while k < 8 {
-        let m = put_text(d, k, h, out, n);
+        let t = put_text(d, k, h, out, n);
         starts[k] = n;
-        lengths[k] = m;
-        n += m;
+        lengths[k] = t.bytes;
+        replaced[k] = t.replaced;
+        n += t.bytes;
         k += 1;
     }
     Laid {
         starts,
         lengths,
+        replaced,
         count: n,
     }
 }
@@ -142,35 +168,41 @@ fn fetch_all(
     out: &mut [u8],
     starts: &mut [usize; 8],
     lengths: &mut [usize; 8],
-) -> Fetched
+) -> FetchedTexts
     requires { ⌜ metadataRule (now h) ≡ gives d ⌝ }
-    ensures { λ r. ⌜ FetchesAll r (lentTexts out starts lengths) (got (textsOf (d .edition) (now (h .entry))) (length (now (h .entry)))) ⌝ }
+    ensures texts { λ r. ⌜ FetchesAll (r .answer) (lentTexts out starts lengths) (got (textsOf (d .edition) (now (h .entry))) (length (now (h .entry)))) ⌝ }
+    ensures replaced { λ r. ⌜ r .replaced ≡ map (passedOn (outcomeOf (r .answer))) (countsOf (d .edition) (now (h .entry))) ⌝ }
 {
     if !fit(d, h, out.len()) {
-        return Fetched::Refused(Refusal::LentLength);
+        return refused(Refusal::LentLength);
     }
     let l = lay_out(d, h, out);
     let from = l.starts;
     *starts = from;
     let of = l.lengths;
     *lengths = of;
-    Fetched::Text(l.count)
+    let replaced = l.replaced;
+    FetchedTexts {
+        answer: Fetched::Text(l.count),
+        replaced,
+    }
 }
 
-// All texts, from the bytes of a whole file: the bytes that they take together.
+// All texts, from the bytes of a whole file: the bytes that they take together, and how many units of each were replaced.
 pub fn fetch_texts(
     kind: u8,
     s: &[u8],
     out: &mut [u8],
     starts: &mut [usize; 8],
     lengths: &mut [usize; 8],
-) -> Fetched
-    ensures { λ r. ⌜ FetchesAll r (lentTexts out starts lengths) (read true (eightRule kind) (now (s .entry))) ⌝ }
+) -> FetchedTexts
+    ensures texts { λ r. ⌜ FetchesAll (r .answer) (lentTexts out starts lengths) (read true (eightRule kind) (now (s .entry))) ⌝ }
+    ensures replaced { λ r. ⌜ r .replaced ≡ allPassed kind (now (out .entry)) (now (s .entry)) ⌝ }
 {
     let o = open_header(kind, s, true);
     let answer = o.answer;
     match answer {
-        Opened::Stopped(z) => Fetched::Refused(refusal_of(z)),
+        Opened::Stopped(z) => refused(refusal_of(z)),
         Opened::Header {
             size,
             scans: _,

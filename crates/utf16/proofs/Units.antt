@@ -4,6 +4,7 @@ use mathlib.Core.Logic.{_⊎_, inl, inr, ⊎-elim}
 use mathlib.Core.Bool.{Bool, true, false, cond, _&&_}
 use mathlib.Core.List.{List, [], _∷_, _++_, append-assoc, append-nil}
 use Prim.Native.Nat.{ℕ, suc, _+_, _-_, _*_, _≤_, _<_}
+use native.Mathlib.Nat.{zero-add}
 use native.Mathlib.Numerals.{add-one, add-two}
 use native.Mathlib.Omega.{arith}
 use lib.Dec.{ltb}
@@ -14,10 +15,11 @@ use borrow.Table.Steps.{cases as by}
 use Rattle.utf16.specs.declared.Piece.{Piece}
 use Rattle.utf8.specs.Utf8.{Scalar, Scalars, Utf8, encode, encodes, within}
 use Rattle.common.specs.Bytes.{AreBytes}
-use Rattle.utf16.specs.Utf16.{units, isHigh, isLow, alone, pair, utf16, utf8Of, pieceOf, unitAt, First}
+use Rattle.utf16.specs.Utf16.{units, isHigh, isLow, alone, pair, utf16, utf8Of, unpaired, lone, pieceOf, unitAt, First}
 use Rattle.utf8.proofs.Cases.{never, both, first, second, least, most, inside}
 use Rattle.utf8.proofs.Decodes.{encode-length}
 use Rattle.written.proofs.Puts.{paste-next}
+use Rattle.utf16.proofs.Partners.{few-unpaired, lone-counts, pair-counts}
 
 -- ---- units
 
@@ -47,14 +49,18 @@ unit-none s at h = sym (ap (λ (l : List ℕ). getD l 0 0) (units-none s at h))
 -- ---- a piece, by the tests
 
 module _ (u v : ℕ) where
-  pub lone-piece : (x : ℕ) → x ≡ alone u → (isHigh u && isLow v) ≡ false → _≡_ {A = Piece} (record { scalar = x; width = 2 }) (pieceOf u v)
-  lone-piece x e t = simp (e, t)
+  pub lone-piece : (x n : ℕ) → x ≡ alone u → n ≡ lone u → (isHigh u && isLow v) ≡ false → _≡_ {A = Piece} (record { scalar = x; width = 2; replaced = n }) (pieceOf u v)
+  lone-piece x n e f t = simp (e, f, t)
 
-  pub pair-piece : isHigh u ≡ true → isLow v ≡ true → _≡_ {A = Piece} (record { scalar = pair u v; width = 4 }) (pieceOf u v)
+  pub pair-piece : isHigh u ≡ true → isLow v ≡ true → _≡_ {A = Piece} (record { scalar = pair u v; width = 4; replaced = 0 }) (pieceOf u v)
   pair-piece i j = simp (both i j)
 
-  pub low-piece : u < 0xD800 → _≡_ {A = Piece} (record { scalar = u; width = 2 }) (pieceOf u v)
-  low-piece h = let none = lt-leb 0xD800 u h in let e : u ≡ alone u = sym (simp none) in lone-piece u e (simp none)
+  pub low-piece : u < 0xD800 → _≡_ {A = Piece} (record { scalar = u; width = 2; replaced = 0 }) (pieceOf u v)
+  low-piece h =
+      let none = lt-leb 0xD800 u h in
+      let e : u ≡ alone u = sym (simp none) in
+      let f : 0 ≡ lone u = sym (simp none) in
+      lone-piece u 0 e f (simp none)
 
 -- ---- a piece is a scalar
 
@@ -76,17 +82,17 @@ pair-scalar u v t =
 below : {c : ℕ} → Scalar c → c < 0x110000
 below s = ⊎-elim (λ t. omega arith) (λ t. t .1) s
 
-Small : List ℕ → Type 0
+unfoldable pub Small : List ℕ → Type 0
 Small [] = Unit
 Small (u ∷ us) = (u < 65536) × Small us
 
-small-units : (bs : List ℕ) → AreBytes bs → Small (units bs)
+pub small-units : (bs : List ℕ) → AreBytes bs → Small (units bs)
 unfolding Small AreBytes
 small-units [] o = tt
 small-units (a ∷ []) o = tt
 small-units (a ∷ b ∷ bs) o = (omega (arith, o .0, o .1 .0), small-units bs (o .1 .1))
 
-scalars : (us : List ℕ) → Small us → Scalars (utf16 us)
+pub scalars : (us : List ℕ) → Small us → Scalars (utf16 us)
 unfolding Small utf16
 scalars [] s = tt
 scalars (u ∷ []) s = (alone-scalar u (s .0), tt)
@@ -103,25 +109,26 @@ recodes bs o = record { scalars = scalars (units bs) (small-units bs o); bytes =
 
 -- ---- the UTF-16 from a place on begins with a piece
 
-lone-is : (u : ℕ) (us : List ℕ) → (isHigh u && isLow (getD us 0 0)) ≡ false → utf16 (u ∷ us) ≡ alone u ∷ utf16 us
+pub lone-is : (u : ℕ) (us : List ℕ) → (isHigh u && isLow (getD us 0 0)) ≡ false → utf16 (u ∷ us) ≡ alone u ∷ utf16 us
 unfolding utf16
 lone-is u [] t = refl
 lone-is u (v ∷ us) t = simp t
 
-pair-is : (u v : ℕ) (us : List ℕ) → (isHigh u && isLow v) ≡ true → utf16 (u ∷ v ∷ us) ≡ pair u v ∷ utf16 us
+pub pair-is : (u v : ℕ) (us : List ℕ) → (isHigh u && isLow v) ≡ true → utf16 (u ∷ v ∷ us) ≡ pair u v ∷ utf16 us
 unfolding utf16
 pair-is u v us t = simp t
 
 module _ (s : List ℕ) (at : ℕ) (h : at + 2 ≤ length s) (small : unitAt s at < 65536) where
-  lone : (isHigh (unitAt s at) && isLow (unitAt s (at + 2))) ≡ false → First s at (pieceOf (unitAt s at) (unitAt s (at + 2)))
+  lone-first : (isHigh (unitAt s at) && isLow (unitAt s (at + 2))) ≡ false → First s at (pieceOf (unitAt s at) (unitAt s (at + 2)))
   unfolding utf8Of encodes
-  lone t =
+  lone-first t =
       simp t
       (record {
         small = below (alone-scalar (unitAt s at) small);
         moves = omega arith;
         fits = h;
         begins = ap encodes (ap utf16 (units-cons s at h) ∙ lone-is (unitAt s at) (units (drop (at + 2) s)) t);
+        counts = ap unpaired (units-cons s at h) ∙ lone-counts (unitAt s at) (units (drop (at + 2) s)) t;
       })
 
   paired : (isHigh (unitAt s at) && isLow (unitAt s (at + 2))) ≡ true → First s at (pieceOf (unitAt s at) (unitAt s (at + 2)))
@@ -142,10 +149,14 @@ module _ (s : List ℕ) (at : ℕ) (h : at + 2 ≤ length s) (small : unitAt s a
             ap encodes (ap utf16 (units-cons s at h ∙ ap (λ (l : List ℕ). unitAt s at ∷ l) (units-cons s (at + 2) k))
             ∙ pair-is (unitAt s at) (unitAt s (at + 2)) (units (drop (at + 2 + 2) s)) t)
             ∙ ap (λ (n : ℕ). encode (pair (unitAt s at) (unitAt s (at + 2))) ++ encodes (utf16 (units (drop n s)))) f;
+        counts =
+            ap unpaired (units-cons s at h ∙ ap (λ (l : List ℕ). unitAt s at ∷ l) (units-cons s (at + 2) k))
+            ∙ pair-counts (unitAt s at) (unitAt s (at + 2)) (units (drop (at + 2 + 2) s)) t
+            ∙ ap (λ (n : ℕ). unpaired (units (drop n s))) f ∙ sym (zero-add _);
       })
 
   pub first-is : First s at (pieceOf (unitAt s at) (unitAt s (at + 2)))
-  first-is = by (isHigh (unitAt s at) && isLow (unitAt s (at + 2))) paired lone
+  first-is = by (isHigh (unitAt s at) && isLow (unitAt s (at + 2))) paired lone-first
 
 -- ---- both passes over UTF-16: what has been passed makes the n bytes `done`
 
@@ -209,6 +220,31 @@ module _ (s old new : List ℕ) (at n : ℕ) (g : Putting s old new at n) (fit :
           bytes = p ∙ ap (λ (l : List ℕ). paste l n (encode (r .scalar)) (length (encode (r .scalar)))) (g .bytes) ∙ paste-next old (g .pass .done) (encode (r .scalar)) n (g .pass .count);
         })
 
+few-units : (bs : List ℕ) → 2 * length (units bs) ≤ length bs
+few-units [] = omega arith
+few-units (a ∷ []) = omega arith
+few-units (a ∷ b ∷ bs) = omega (arith, few-units bs)
+
+-- ---- the units that were replaced so far, and those that are to come
+
+abbrev pub Counting : List ℕ → ℕ → ℕ → Type 0
+Counting s at m = m + unpaired (units (drop at s)) ≡ unpaired (units s)
+
+pub count-starts : (s : List ℕ) → Counting s 0 0
+count-starts s = zero-add _
+
+module _ (s : List ℕ) (at m : ℕ) (g : Counting s at m) where
+  pub count-done : length s - at < 2 → at ≤ length s → m ≡ unpaired (units s)
+  unfolding unpaired
+  count-done h l = omega (arith, g, ap unpaired (units-none s at (omega arith)))
+
+  module _ (r : Piece) (f : First s at r) where
+    pub count-on : Counting s (at + r .width) (m + r .replaced)
+    count-on = omega (arith, g, f .counts)
+
+    pub count-fits : m + r .replaced ≤ length s
+    count-fits = omega (arith, g, f .counts, few-unpaired (units s), few-units s)
+
 -- ---- how long the UTF-8 is at most
 
 few-scalars : (us : List ℕ) → length (utf16 us) ≤ length us
@@ -226,11 +262,6 @@ few-bytes : (cs : List ℕ) → length (encodes cs) ≤ 4 * length cs
 unfolding encodes
 few-bytes [] = omega arith
 few-bytes (c ∷ cs) = omega (arith, few-bytes cs, encode-length c .1, length-append (encode c) (encodes cs))
-
-few-units : (bs : List ℕ) → 2 * length (units bs) ≤ length bs
-few-units [] = omega arith
-few-units (a ∷ []) = omega arith
-few-units (a ∷ b ∷ bs) = omega (arith, few-units bs)
 
 pub twice : (bs : List ℕ) → length (utf8Of bs) ≤ 2 * length bs
 unfolding utf8Of

@@ -11,12 +11,25 @@ ghost use lib.Seq.{paste};
 ghost use Rattle.utf8.specs.Utf8.{encode, six, Utf8};
 ghost use Rattle.written.specs.Written.{written, Puts};
 ghost use Rattle.common.specs.Bytes.{AreBytes};
-ghost use Rattle.utf16.specs.Utf16.{units, utf16, utf8Of, pieceOf, unitAt, First};
+ghost use Rattle.utf16.specs.Utf16.{units, utf16, utf8Of, unpaired, reported, pieceOf, unitAt, First};
 
-// A scalar, and how many bytes of UTF-16 it takes.
+// A scalar, how many bytes of UTF-16 it takes, and how many units of these were replaced by it: one or none.
 struct Piece {
     pub scalar: u32,
     pub width: usize,
+    pub replaced: usize,
+}
+
+// The bytes of UTF-8 that were put, and the units that were replaced on the way.
+pub struct Recoded {
+    pub bytes: usize,
+    pub replaced: usize,
+}
+
+// What was written, and how many units were replaced in it.
+pub struct Decoding {
+    pub answer: Written,
+    pub replaced: usize,
 }
 
 // ---- The UTF-8 of a scalar
@@ -81,6 +94,9 @@ fn put_scalar(out: &mut [u8], at: usize, c: u32) -> usize
 // Stands for each surrogate that is part of no pair.
 const REPLACEMENT: u32 = 0xFFFD;
 
+// It stands for one unit.
+const REPLACED: usize = 1;
+
 // The unit at a place, or 0 where there is none.
 fn unit_at(s: &[u8], at: usize) -> u32
     requires { ⌜ at ≤ length (now s) ⌝ }
@@ -99,24 +115,31 @@ fn piece_of(u: u32, v: u32) -> Piece
         return Piece {
             scalar: u,
             width: 2,
+            replaced: 0,
         };
     }
     if 0xDBFF < u {
         return Piece {
             scalar: REPLACEMENT,
             width: 2,
+            replaced: REPLACED,
         };
     }
     if !within(0xDC00, 0xDFFF, v) {
         return Piece {
             scalar: REPLACEMENT,
             width: 2,
+            replaced: REPLACED,
         };
     }
     let high = u - 0xD800;
     let low = v - 0xDC00;
     let scalar = 0x10000 + high * 1024 + low;
-    Piece { scalar, width: 4 }
+    Piece {
+        scalar,
+        width: 4,
+        replaced: 0,
+    }
 }
 
 // What the UTF-16 from a place on begins with.
@@ -130,6 +153,7 @@ fn piece_at(s: &[u8], at: usize) -> Piece
         return Piece {
             scalar: u,
             width: 2,
+            replaced: 0,
         };
     }
     piece_of(u, unit_at(s, at + 2))
@@ -167,28 +191,39 @@ fn has_room(s: &[u8], room: usize) -> bool
 }
 
 // Puts the UTF-8 of the UTF-16 in s at the start of out, and answers its length.
-pub fn recode(s: &[u8], out: &mut [u8]) -> usize
+pub fn recode(s: &[u8], out: &mut [u8]) -> Recoded
     requires { ⌜ length (utf8Of (now s)) ≤ length (now out) ⌝ }
-    ensures { λ r. ⌜ (r ≡ length (utf8Of (now (s .entry)))) × (now (out .exit) ≡ utf8Of (now (s .entry)) ++ drop r (now (out .entry))) ⌝ }
+    ensures bytes { λ r. ⌜ (r .bytes ≡ length (utf8Of (now (s .entry)))) × (now (out .exit) ≡ utf8Of (now (s .entry)) ++ drop (r .bytes) (now (out .entry))) ⌝ }
+    ensures replaced { λ r. ⌜ r .replaced ≡ unpaired (units (now (s .entry))) ⌝ }
 {
     let mut at: usize = 0;
     let mut n: usize = 0;
+    let mut replaced: usize = 0;
     while 2 <= s.len() - at {
         let p = piece_at(s, at);
         n = put_scalar(out, n, p.scalar);
+        replaced += p.replaced;
         at += p.width;
     }
-    n
+    Recoded { bytes: n, replaced }
 }
 
-// Writes the UTF-8 of the UTF-16 in src to the start of out, if there is room for it.
-pub fn decode_utf16(src: &[u8], out: &mut [u8]) -> Written
-    ensures { λ r. ⌜ Puts r (now (out .entry)) (now (out .exit)) (utf8Of (now (src .entry))) ⌝ }
+// Writes the UTF-8 of the UTF-16 in src to the start of out, if there is room for it, and reports the units that were replaced.
+pub fn decode_utf16(src: &[u8], out: &mut [u8]) -> Decoding
+    ensures written { λ r. ⌜ Puts (r .answer) (now (out .entry)) (now (out .exit)) (utf8Of (now (src .entry))) ⌝ }
+    ensures replaced { λ r. ⌜ r .replaced ≡ reported (r .answer) (unpaired (units (now (src .entry)))) ⌝ }
 {
     if !has_room(src, out.len()) {
-        return Written::NoRoom;
+        return Decoding {
+            answer: Written::NoRoom,
+            replaced: 0,
+        };
     }
-    Written::Bytes(recode(src, out))
+    let r = recode(src, out);
+    Decoding {
+        answer: Written::Bytes(r.bytes),
+        replaced: r.replaced,
+    }
 }
 
 // What the definitions mean, in a contract so that it cannot be left out: UTF-16 becomes UTF-8.

@@ -5,10 +5,12 @@ use Rattle.chemread.proofs.chemstation_text.Statement.{statement}
 use Rattle.chemread.proofs.chemstation_text.Tie as tie
 
 returns : tie.Need-returns
-returns c = rw (c .number-of .ensures) (fetches-into _ _ _ _ _ _ (c .before .before .before .before .before .before .fetch-text .ensures) (c .before .before .r .given .1))
+returns c =
+    let f = c .before .before .before .before .before .before .fetch-text in
+    (rw (c .number-of .ensures) (fetches-into _ _ _ _ _ _ (f .ensures .0) (c .before .before .answer .given .1)), f .ensures .1)
 
 returns-2 : tie.Need-returns-2
-returns-2 c = fetches-into _ _ _ _ _ _ (c .before .before .before .before .before .fetch-text .ensures) (c .before .n .given .1)
+returns-2 c = let f = c .before .before .before .before .before .fetch-text in (fetches-into _ _ _ _ _ _ (f .ensures .0) (c .before .answer2 .given .1), f .ensures .1)
 
 pub chemstation-text-spec : {M : Type 1} → statement M
 chemstation-text-spec =

@@ -5,10 +5,12 @@ use Rattle.chemread.proofs.chemstation_texts.Statement.{statement}
 use Rattle.chemread.proofs.chemstation_texts.Tie as tie
 
 returns : tie.Need-returns
-returns c = rw (c .number-of .ensures) (texts-into _ _ _ _ (c .before .before .before .before .before .before .fetch-texts .ensures) (c .before .before .r .given .1))
+returns c =
+    let f = c .before .before .before .before .before .before .before .fetch-texts in
+    (rw (c .number-of .ensures) (texts-into _ _ _ _ (f .ensures .0) (c .before .before .answer .given .1)), f .ensures .1)
 
 returns-2 : tie.Need-returns-2
-returns-2 c = texts-into _ _ _ _ (c .before .before .before .before .fetch-texts .ensures) (c .enum-told .given .1)
+returns-2 c = let f = c .before .before .before .before .before .fetch-texts in (texts-into _ _ _ _ (f .ensures .0) (c .enum-told .given .1), f .ensures .1)
 
 pub chemstation-texts-spec : {M : Type 1} → statement M
 chemstation-texts-spec =

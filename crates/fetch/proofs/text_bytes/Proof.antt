@@ -6,7 +6,7 @@ use native.Mathlib.Omega.{arith}
 use lib.ListN.{getD}
 use borrow.Author.Needs.{needs}
 use Rattle.common.specs.Bytes.{part}
-use Rattle.fetch.proofs.Texts.{text-inside, new-text, old-text}
+use Rattle.fetch.proofs.Texts.{text-inside, new-text, new-units, old-text}
 use Rattle.fetch.proofs.text_bytes.Statement.{statement}
 use Rattle.fetch.proofs.text_bytes.Tie as tie
 
@@ -30,7 +30,7 @@ returns c =
     let n = add-sub-cancel-left (getD (s .args .d .«text_starts») (s .args .k) 0) (getD (s .args .d .«text_lengths») (s .args .k) 0) in
     rw (l .before .start-of .ensures, l .length-of .ensures) (
       old-text _ _ (s .args .k) (s .pre .1) (k .shared-slice-known .given),
-      (new-text _ _ (s .args .k) (s .pre .1) (k .shared-slice-known .given), ap (λ (j : ℕ). part (getD (s .args .d .«text_starts») (s .args .k) 0) j (s .args .h .now)) n),
+      (new-text _ _ (s .args .k) (s .pre .1) (k .shared-slice-known .given), (new-units _ _ (s .args .k) (s .pre .1) (k .shared-slice-known .given), ap (λ (j : ℕ). part (getD (s .args .d .«text_starts») (s .args .k) 0) j (s .args .h .now)) n)),
     )
 
 pub text-bytes-spec : {M : Type 1} → statement M

@@ -7,6 +7,7 @@ use denote.Ref.{now}
 use lib.ListN.{length, take, drop, length-take, length-drop}
 use lib.Seq.{paste}
 use borrow.Author.Needs.{needs}
+use Rattle.fetch.proofs.Texts.{old-units}
 use Rattle.texts.proofs.Joins.{put-behind}
 use Rattle.texts.proofs.put_text.Statement.{statement}
 use Rattle.texts.proofs.put_text.Tie as tie
@@ -23,8 +24,8 @@ returns c =
     let s = b .before .before .before .before .before in
     let e = b .before .before .text-bytes .ensures .1 .0 (b .if1 .taken) in
     let r = c .before .before .recode .ensures in
-    let n = r .0 ∙ ap length e in
-    (n, put-behind (now (s .args .out)) _ _ (s .args .at) _ (omega (arith, s .pre .2)) n (r .1 ∙ ap (λ (t : List ℕ). t ++ drop (c .before .before .recode .result) (take (length (now (s .args .out)) - s .args .at) (drop (s .args .at) (now (s .args .out))))) e))
+    let n = r .0 .0 ∙ ap length e in
+    (n, (put-behind (now (s .args .out)) _ _ (s .args .at) _ (omega (arith, s .pre .2)) n (r .0 .1 ∙ ap (λ (t : List ℕ). t ++ drop (c .before .before .recode .result .bytes) (take (length (now (s .args .out)) - s .args .at) (drop (s .args .at) (now (s .args .out))))) e), r .1 ∙ b .before .before .text-bytes .ensures .1 .1 .0 (b .if1 .taken)))
 
 put-requires : tie.Need-put-requires
 put-requires c κs =
@@ -36,8 +37,10 @@ returns-2 : tie.Need-returns-2
 returns-2 c =
     let b = c .before .before .before .before in
     let s = b .before .before .before .before .before in
-    let e = b .before .before .text-bytes .ensures .0 (b .if1 .left) in
-    (ap length e, c .before .before .put .ensures ∙ ap (λ (t : List ℕ). paste (now (s .args .out)) (s .args .at) t (length (b .before .before .text-bytes .result .now))) e)
+    let e = b .before .before .text-bytes .ensures .0 (b .if1 .left) in (
+      ap length e,
+      (c .before .before .put .ensures ∙ ap (λ (t : List ℕ). paste (now (s .args .out)) (s .args .at) t (length (b .before .before .text-bytes .result .now))) e, old-units (s .args .k) (s .args .d .edition) (now (s .args .h)) (b .if1 .left)),
+    )
 
 pub put-text-spec : {M : Type 1} → statement M
 put-text-spec =

@@ -1,5 +1,5 @@
 -- Where there is room for the text, it is put there.
-use mathlib.Core.Path.{sym, _∙_}
+use mathlib.Core.Path.{refl, sym, _∙_}
 use denote.Ref.{now}
 use borrow.Author.Needs.{needs}
 use borrow.Author.Tests.{leb-true, leb-false}
@@ -10,7 +10,9 @@ use Rattle.utf16.proofs.decode_utf16.Statement.{statement}
 use Rattle.utf16.proofs.decode_utf16.Tie as tie
 
 returns : tie.Need-returns
-returns c = let x = c .before .before .before .before .args in refuses (now (x .out)) (utf8Of (now (x .src))) (leb-false _ _ (no (c .before .has-room .ensures) (c .if1 .taken)))
+returns c =
+    let x = c .before .before .before .before .args in
+    (refuses (now (x .out)) (utf8Of (now (x .src))) (leb-false _ _ (no (c .before .has-room .ensures) (c .if1 .taken))), refl)
 
 recode-requires : tie.Need-recode-requires
 recode-requires c κs = leb-true _ _ (yes (c .before .before .has-room .ensures) (c .before .if1 .left))
@@ -20,7 +22,7 @@ returns-2 c =
     let b = c .before .before .before .before in
     let x = b .before .before .before .before .args in
     let r = c .before .before .recode .ensures in
-    puts (now (x .out)) _ (utf8Of (now (x .src))) _ (r .0) (leb-true _ _ (yes (b .before .has-room .ensures) (b .if1 .left))) (r .1)
+    (puts (now (x .out)) _ (utf8Of (now (x .src))) _ (r .0 .0) (leb-true _ _ (yes (b .before .has-room .ensures) (b .if1 .left))) (r .0 .1), r .1)
 
 pub decode-utf16-spec : {M : Type 1} → statement M
 decode-utf16-spec = tie.close (tie.spec (λ c κs. search needs) returns recode-requires (λ c. search needs) returns-2)
