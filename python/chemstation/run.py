@@ -48,6 +48,9 @@ class Texts(dict):
         super().__init__(texts)
         self.replaced = replaced
 
+    def copy(self):
+        return Texts(self, dict(self.replaced))
+
 
 def texts_in(memory, length, kind):
     """The Texts, by one call."""

@@ -27,8 +27,9 @@ looked for from the folder that you are in, then from the list's own. Blank line
 log of the run on line 12 is OUT/0012-NAME.log; OUT/0012-NAME.made says what it was made of; where the log program stopped,
 what there is of a log is OUT/0012-NAME.part. The same command goes on where it was broken off: a log is kept where its line,
 file and log program are those that it was made of, and a picture with its log; what has changed is made again. Files of lines
-that the list no longer has, or whose run is gone, are moved to OUT/old. CHEMLOG may name another log program than
-target/bin/chemlog, which is proved and built the first time."""
+that the list no longer has, or whose run is gone, are moved to OUT/old. Where letters of a run's texts were replaced by U+FFFD
+(unpaired surrogates in the header), the table has a row for such runs, 'replaced', and names each below 'To look at'. CHEMLOG may
+name another log program than target/bin/chemlog, which is proved and built the first time."""
 STATUS = """Progress is on standard error, the table on standard output. Status: 0 every log closes with 0; 1 a run was refused
 or failed, a line was bad, or a picture is missing; 2 wrong usage, or a list or folder that cannot be used; 130 broken off by
 Ctrl-C."""

@@ -65,6 +65,17 @@ def opened(line):
         return None
 
 
+def of_texts(run):
+    """Advice on the texts of a run, where it is opened."""
+    return advice.of_replaced(run.replaced) if run else []
+
+
+def failed(line, words, said=""):
+    """A run without a whole log; its texts are looked at all the same."""
+    replaced = of_texts(opened(line))
+    return Result(line, "failed", f"{line.name}: FAILED: {words}", said=said, replaced=bool(replaced), look=tuple(replaced))
+
+
 class Folder:
     """A volume's folder, and the programs that fill it."""
 
@@ -119,7 +130,7 @@ class Folder:
         run = opened(line)
         if run and made.log.last_time is not None:
             look += advice.of_times(line.kind, made.log.last_time, run.end)
-        replaced = advice.of_replaced(run.replaced) if run else []
+        replaced = of_texts(run)
         undrawn = self.draw(line) if self.plots else []
         answer, records, drawn = made.log.answer, made.log.records, self.plots and not undrawn
         return Result(line, answer, in_words(line, made.log), records, made.said, bool(left), bool(replaced), kept, drawn,
@@ -135,6 +146,6 @@ class Folder:
         except logs.BrokenOff:
             return None
         except logs.Failed as error:
-            return Result(line, "failed", f"{line.name}: FAILED: {error}", said=error.said)
+            return failed(line, error, error.said)
         except OSError as error:
-            return Result(line, "failed", f"{line.name}: FAILED: its log cannot be written: {error.strerror}")
+            return failed(line, f"its log cannot be written: {error.strerror}")

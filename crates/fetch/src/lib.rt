@@ -101,7 +101,7 @@ pub fn text_bytes(d: ChemstationMetadata, k: usize, h: &[u8]) -> &[u8]
     requires { ⌜ (k < 8) × (metadataRule (now h) ≡ gives d) ⌝ }
     ensures old { λ r. ⌜ (d .edition ≤ 102 → now r ≡ textOf (fieldOf k (d .edition)) (now (h .entry))) ⌝ }
     ensures new { λ r. ⌜ (102 < d .edition → utf8Of (now r) ≡ textOf (fieldOf k (d .edition)) (now (h .entry))) ⌝ }
-    ensures units { λ r. ⌜ (102 < d .edition → unpaired (units (now r)) ≡ replacedIn (fieldOf k (d .edition)) (now (h .entry))) ⌝ }
+    ensures count { λ r. ⌜ (102 < d .edition → unpaired (units (now r)) ≡ replacedIn (fieldOf k (d .edition)) (now (h .entry))) ⌝ }
     ensures there { λ r. ⌜ now r ≡ part (getD (d .«text_starts») k 0) (getD (d .«text_lengths») k 0) (now (h .entry)) ⌝ }
 {
     let at = start_of(d, k);

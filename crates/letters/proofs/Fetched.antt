@@ -19,6 +19,8 @@ use Rattle.utf8.proofs.Cases.{never}
 use Rattle.utf8.proofs.Decodes.{exactly}
 use Rattle.trim.specs.WhiteSpace.{white, trimStart, keep, trimEnd, trim}
 use Rattle.agilent.specs.Header.{known, headerRule}
+use Rattle.utf16.specs.Utf16.{units}
+use Rattle.utf16.proofs.Units.{recodes}
 use Rattle.layouts.specs.Table.{fieldOf}
 use Rattle.layouts.proofs.Tables.{table}
 use Rattle.pascal.specs.declared.TextField.{TextField}
@@ -30,8 +32,8 @@ use Rattle.fetch.proofs.Texts.{old-units}
 use Rattle.fetch.proofs.Fetches.{textIn, fetch-unknown, fetch-no-text, fetch-opens, passes-none}
 use Rattle.texts.specs.Eight.{numbers, Texts, allPassed}
 use Rattle.texts.specs.declared.FetchedTexts.{FetchedTexts}
-use Rattle.letters.specs.Letters.{occurrences, inScalars, genuine, Given, Tells, GivenAll, TellAll}
-use Rattle.letters.proofs.Units.{no-letter, one-text, letters}
+use Rattle.letters.specs.Letters.{occurrences, inScalars, genuine, trimmedScalars, scalarsIn, Given, Tells, GivenAll, TellAll}
+use Rattle.letters.proofs.Units.{no-letter, one-text, letters-of}
 
 -- ---- the header's bytes are bytes
 
@@ -95,23 +97,35 @@ trim-scalars : (cs : List ℕ) → Scalars cs → Scalars (trim cs)
 unfolding trim
 trim-scalars cs s = end-scalars (trimStart cs) (start-scalars cs s)
 
--- ---- the U+FFFD of a text, by its field
+-- ---- the scalars of a text, by its field
 
-none-empty : (cs : List ℕ) → Utf8 [] cs → occurrences 0xFFFD cs ≡ 0
+empty-utf8 : Utf8 [] []
 unfolding encodes
-none-empty cs u = ap (occurrences 0xFFFD) (one-text {ds = []} u (record { scalars = tt; bytes = refl }))
+empty-utf8 = record { scalars = tt; bytes = refl }
 
-letters-old : (bs cs : List ℕ) (d : Decoded) → decode bs ≡ d → Utf8 (trimmedText d) cs → occurrences 0xFFFD cs ≡ inScalars d
-letters-old bs cs bad e u = none-empty cs u
-letters-old bs cs (text ds) e u =
-    ap (occurrences 0xFFFD) (one-text u (record { scalars = trim-scalars ds (exactly bs ds .0 e .scalars); bytes = refl })) ∙ trim-keeps ds
+old-utf8 : (bs : List ℕ) (d : Decoded) → decode bs ≡ d → Utf8 (trimmedText d) (trimmedScalars d)
+old-utf8 bs bad e = empty-utf8
+old-utf8 bs (text ds) e = record { scalars = trim-scalars ds (exactly bs ds .0 e .scalars); bytes = refl }
 
-letters-in : (f : TextField) (h cs : List ℕ) → AreBytes h → Utf8 (textOf f h) cs → occurrences 0xFFFD cs ≡ replacedIn f h + genuine f h
-unfolding textOf replacedIn
-letters-in Absent h cs o u = none-empty cs u
-letters-in (Pascal start width) h cs o u = letters-old _ cs (decode (part (start + 1) (getD h start 0) h)) refl u ∙ sym (zero-add _)
-letters-in (PascalToEnd start) h cs o u = letters-old _ cs (decode (part (start + 1) (getD h start 0) h)) refl u ∙ sym (zero-add _)
-letters-in (Utf16 start) h cs o u = letters (part (start + 1) (2 * getD h start 0) h) cs (bytes-take (2 * getD h start 0) (drop (start + 1) h) (bytes-drop (start + 1) h o)) u
+text-utf8 : (f : TextField) (h : List ℕ) → AreBytes h → Utf8 (textOf f h) (scalarsIn f h)
+unfolding textOf
+text-utf8 Absent h o = empty-utf8
+text-utf8 (Pascal start width) h o = old-utf8 (part (start + 1) (getD h start 0) h) (decode (part (start + 1) (getD h start 0) h)) refl
+text-utf8 (PascalToEnd start) h o = old-utf8 (part (start + 1) (getD h start 0) h) (decode (part (start + 1) (getD h start 0) h)) refl
+text-utf8 (Utf16 start) h o = recodes (part (start + 1) (2 * getD h start 0) h) (bytes-take (2 * getD h start 0) (drop (start + 1) h) (bytes-drop (start + 1) h o))
+
+-- ---- their U+FFFD
+
+letters-old : (d : Decoded) → occurrences 0xFFFD (trimmedScalars d) ≡ inScalars d
+letters-old bad = refl
+letters-old (text ds) = trim-keeps ds
+
+letters-in : (f : TextField) (h : List ℕ) → occurrences 0xFFFD (scalarsIn f h) ≡ replacedIn f h + genuine f h
+unfolding replacedIn
+letters-in Absent h = refl
+letters-in (Pascal start width) h = letters-old (decode (part (start + 1) (getD h start 0) h)) ∙ sym (zero-add _)
+letters-in (PascalToEnd start) h = letters-old (decode (part (start + 1) (getD h start 0) h)) ∙ sym (zero-add _)
+letters-in (Utf16 start) h = letters-of (units (part (start + 1) (2 * getD h start 0) h))
 
 -- ---- Fetch
 
@@ -152,19 +166,26 @@ module _ (kind number : ℕ) (s : List ℕ) (r : FetchedText) (old new : List �
         (λ k. by (leb 1 number && leb number 8) (λ b. fetch-opens kind number s k b ∙ ap (mapRead (textIn number)) e) (λ b. absurd (no-stop (fetch-no-text kind number s k b))))
         λ k. absurd (no-stop (fetch-unknown kind number s k))
 
-    module _ (x : Header) (m : ℕ) (cs : List ℕ) (o : AreBytes s) (e : opened ≡ got x m) (u : Utf8 (take n new) cs) where
-      pub fetched-letters : occurrences 0xFFFD cs ≡ r .replaced + genuine (fieldOf (number - 1) (x .says .edition)) (x .bytes)
-      fetched-letters =
+    module _ (x : Header) (m : ℕ) (o : AreBytes s) (e : opened ≡ got x m) where
+      abbrev field : TextField
+      field = fieldOf (number - 1) (x .says .edition)
+
+      fetched-utf8 : Utf8 (take n new) (scalarsIn field (x .bytes))
+      fetched-utf8 =
           let f = rw (read-text x m e) at (g .fetches) in
-          let t = subst (λ (bs : List ℕ). Utf8 bs cs) (stands r old new (textIn number x) m n f w) u in
-          letters-in (fieldOf (number - 1) (x .says .edition)) (x .bytes) cs (read-bytes kind m s x o e) t
-          ∙ ap (λ (k : ℕ). k + genuine (fieldOf (number - 1) (x .says .edition)) (x .bytes)) (sym (given-count ∙ ap (replacedBy number) e))
+          subst (λ (bs : List ℕ). Utf8 bs (scalarsIn field (x .bytes))) (sym (stands r old new (textIn number x) m n f w)) (text-utf8 field (x .bytes) (read-bytes kind m s x o e))
+
+      fetched-letters : (cs : List ℕ) → Utf8 (take n new) cs → occurrences 0xFFFD cs ≡ r .replaced + genuine field (x .bytes)
+      fetched-letters cs u =
+          ap (occurrences 0xFFFD) (one-text u fetched-utf8) ∙ letters-in field (x .bytes)
+          ∙ ap (λ (k : ℕ). k + genuine field (x .bytes)) (sym (given-count ∙ ap (replacedBy number) e))
 
   pub tells : AreBytes s → Tells kind number s r new
   tells o = record {
     refused = λ c e. by-answer ∙ ap (λ (k : Outcome). passedOn k (replacedBy number opened)) e;
     old = λ x m e l. by-answer ∙ ap (passedOn (outcomeOf (r .answer))) (ap (replacedBy number) e ∙ sym (old-units (number - 1) (x .says .edition) (x .bytes) l)) ∙ sym (passes-none (outcomeOf (r .answer)));
-    letters = λ x m n cs e w u. fetched-letters n w x m cs o e u;
+    utf8 = λ x m n e w. fetched-utf8 n w x m o e;
+    letters = λ x m n cs e w u. fetched-letters n w x m o e cs u;
   }
 
 -- ---- all texts at once

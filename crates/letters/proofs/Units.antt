@@ -13,7 +13,7 @@ use Rattle.common.specs.Bytes.{AreBytes}
 use Rattle.utf8.specs.Utf8.{Scalar, Scalars, Utf8, text, decode, within}
 use Rattle.utf8.proofs.Cases.{never, both, first, second, least, most, inside, outside, not-first, not-second}
 use Rattle.utf8.proofs.Decodes.{exactly}
-use Rattle.utf16.specs.Utf16.{units, isHigh, isLow, alone, pair, utf16, encode16, encodes16, IsUtf16, utf8Of, unpaired, lone}
+use Rattle.utf16.specs.Utf16.{units, isHigh, isLow, alone, pair, utf16, encode16, encodes16, IsUtf16, utf8Of, unpaired, replacedAlone}
 use Rattle.utf16.proofs.Units.{Small, small-units, scalars, recodes, lone-is, pair-is}
 use Rattle.utf16.proofs.Partners.{lone-counts, pair-counts}
 use Rattle.letters.specs.Letters.{occurrences}
@@ -55,7 +55,7 @@ module _ (u v : ℕ) (t : (isHigh u && isLow v) ≡ true) where
 pub no-letter : (x y : ℕ) → ¬ (y ≡ x) → _≡_ {A = ℕ} (cond (eqb y x) 1 0) 0
 no-letter x y n = by (eqb y x) (λ t. absurd (n (eqb-true y x t))) λ f. simp f
 
-letter : (u : ℕ) → _≡_ {A = ℕ} (cond (eqb (alone u) 0xFFFD) 1 0) (lone u + cond (eqb u 0xFFFD) 1 0)
+letter : (u : ℕ) → _≡_ {A = ℕ} (cond (eqb (alone u) 0xFFFD) 1 0) (replacedAlone u + cond (eqb u 0xFFFD) 1 0)
 letter u =
     by (within 0xD800 0xDFFF u)
     (λ i. simp i (let z = no-letter 0xFFFD u (λ e. absurd (omega (arith, most 0xD800 0xDFFF u i))) in omega (arith, z)))
@@ -93,7 +93,7 @@ letters bs cs o u = ap (occurrences 0xFFFD) (one-text u (recodes bs o)) ∙ lett
 
 -- ---- no unit is replaced
 
-not-lone : (u : ℕ) → lone u ≡ 0 → within 0xD800 0xDFFF u ≡ false
+not-lone : (u : ℕ) → replacedAlone u ≡ 0 → within 0xD800 0xDFFF u ≡ false
 not-lone u z = by (within 0xD800 0xDFFF u) (λ i. let e : 1 ≡ 0 = simp i at z in absurd (omega arith)) (λ f. f)
 
 whole : (us : List ℕ) → Small us → unpaired us ≡ 0 → us ≡ encodes16 (utf16 us)
@@ -115,7 +115,7 @@ whole = pieces {P = λ us. Small us → unpaired us ≡ 0 → us ≡ encodes16 (
         ∙ sym (ap encodes16 (pair-is u v us t) ∙ ap (λ (l : List ℕ). l ++ encodes16 (utf16 us)) (pair-units u v t))
 
 pub some : (bs : List ℕ) → AreBytes bs → unpaired (units bs) ≡ 0 → IsUtf16 (units bs) (utf16 (units bs))
-some bs o z = let s = small-units bs o in record { scalars = scalars (units bs) s; units = whole (units bs) s z }
+some bs o z = let s = small-units bs o in record { scalars = scalars (units bs) s; encoded = whole (units bs) s z }
 
 -- ---- the UTF-16 of scalars
 
@@ -144,7 +144,7 @@ module _ (c : ℕ) (us : List ℕ) (f : within 0xD800 0xDFFF c ≡ false) where
   no-pair = not-first (isLow (getD us 0 0)) (outside 0xD800 0xDFFF 0xD800 0xDBFF c (omega arith) (omega arith) f)
 
   unit-counts : unpaired (c ∷ us) ≡ unpaired us
-  unit-counts = let z : lone c ≡ 0 = simp f in omega (arith, lone-counts c us no-pair, z)
+  unit-counts = let z : replacedAlone c ≡ 0 = simp f in omega (arith, lone-counts c us no-pair, z)
 
   unit-is : utf16 (c ∷ us) ≡ c ∷ utf16 us
   unit-is = let e : alone c ≡ c = simp f in lone-is c us no-pair ∙ ap (λ (x : ℕ). x ∷ utf16 us) e
@@ -157,7 +157,7 @@ none-of (c ∷ cs) s =
     ∙ none-of cs (s .1)
 
 pub none : (us cs : List ℕ) → IsUtf16 us cs → unpaired us ≡ 0
-none us cs w = ap unpaired (w .units) ∙ none-of cs (w .scalars)
+none us cs w = ap unpaired (w .encoded) ∙ none-of cs (w .scalars)
 
 pub inverts : (cs : List ℕ) → Scalars cs → utf16 (encodes16 cs) ≡ cs
 unfolding encodes16 utf16

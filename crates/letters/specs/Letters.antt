@@ -9,6 +9,7 @@ use denote.Triple.Both.{Both}
 use Rattle.rules.specs.Rule.{got, read}
 use Rattle.common.specs.Bytes.{AreBytes, part}
 use Rattle.utf8.specs.Utf8.{Scalars, Utf8, Decoded, bad, text, decode}
+use Rattle.trim.specs.WhiteSpace.{trim}
 use Rattle.utf16.specs.Utf16.{units, utf16, encodes16, IsUtf16, utf8Of, unpaired}
 use Rattle.layouts.specs.Table.{fieldOf}
 use Rattle.pascal.specs.declared.TextField.{TextField}
@@ -54,6 +55,17 @@ genuine (Pascal start width) h = inScalars (decode (part (start + 1) (getD h sta
 genuine (PascalToEnd start) h = inScalars (decode (part (start + 1) (getD h start 0) h))
 genuine (Utf16 start) h = occurrences 0xFFFD (units (part (start + 1) (2 * getD h start 0) h))
 
+abbrev pub trimmedScalars : Decoded → List ℕ
+trimmedScalars bad = []
+trimmedScalars (text cs) = trim cs
+
+-- the scalars of the text in a field
+abbrev pub scalarsIn : TextField → List ℕ → List ℕ
+scalarsIn Absent h = []
+scalarsIn (Pascal start width) h = trimmedScalars (decode (part (start + 1) (getD h start 0) h))
+scalarsIn (PascalToEnd start) h = trimmedScalars (decode (part (start + 1) (getD h start 0) h))
+scalarsIn (Utf16 start) h = utf16 (units (part (start + 1) (2 * getD h start 0) h))
+
 -- what Fetch gives by its contract: the answer r with the number beside it, and the lent buffer before and after
 pub record Given (kind number : ℕ) (s : List ℕ) (r : FetchedText) (old new : List ℕ) : Type 0 where
   pub fetches : Fetches (r .answer) old new (read true (fetchRule kind number) s)
@@ -65,7 +77,9 @@ pub record Tells (kind number : ℕ) (s : List ℕ) (r : FetchedText) (new : Lis
   pub refused : (c : ℕ) → outcomeOf (r .answer) ≡ refuse c → r .replaced ≡ 0
   -- 'an old-edition text reports 0'
   pub old : (x : Header) (m : ℕ) → read true (openRule kind) s ≡ got x m → x .says .edition ≤ 102 → r .replaced ≡ 0
-  -- 'A genuine U+FFFD in the header is not counted': of the n bytes that were written, with the scalars cs, each other is
+  -- the n bytes that were written are UTF-8
+  pub utf8 : (x : Header) (m n : ℕ) → read true (openRule kind) s ≡ got x m → outcomeOf (r .answer) ≡ wrote n → Utf8 (take n new) (scalarsIn (fieldOf (number - 1) (x .says .edition)) (x .bytes))
+  -- 'A genuine U+FFFD in the header is not counted': of their scalars cs, each other U+FFFD is
   pub letters : (x : Header) (m n : ℕ) (cs : List ℕ) → read true (openRule kind) s ≡ got x m → outcomeOf (r .answer) ≡ wrote n → Utf8 (take n new) cs
       → occurrences 0xFFFD cs ≡ r .replaced + genuine (fieldOf (number - 1) (x .says .edition)) (x .bytes)
 
@@ -86,6 +100,6 @@ pub record TellAll (kind : ℕ) (s : List ℕ) (r : FetchedTexts) : Type 0 where
 -- ---- the theorem
 
 pub record ReplacedLetters : Type 0 where
-  pub units : OfUnits
+  pub decoder : OfUnits
   pub fetch : (kind number : ℕ) (s : List ℕ) (r : FetchedText) (old new : List ℕ) → AreBytes s → Given kind number s r old new → Tells kind number s r new
   pub texts : (kind : ℕ) (s : List ℕ) (r : FetchedTexts) (m : Both Texts Texts) → GivenAll kind s r m → TellAll kind s r

@@ -18,7 +18,7 @@ use Rattle.layouts.proofs.Tables.{table}
 use Rattle.written.proofs.Puts.{paste-next}
 use Rattle.fetch.specs.Fetch.{textOf, replacedIn}
 use Rattle.fetch.proofs.Texts.{text-bounded}
-use Rattle.texts.specs.Eight.{textsOf, joined, startsFrom, laidOut, countsOf, storedBytes, Lays}
+use Rattle.texts.specs.Eight.{textsOf, joined, startsFrom, laidOut, replacedInEach, storedBytes, Lays}
 use Rattle.texts.specs.declared.Laid.{Laid}
 
 -- ---- the eight
@@ -32,13 +32,13 @@ module _ (e : ℕ) (h : List ℕ) where
   unfolding textsOf
   text-of k l = table (textsOf e h) [] 8 (λ k. textOf (fieldOf k e) h) refl k l
 
-  pub eight-counts : length (countsOf e h) ≡ 8
-  unfolding countsOf
+  pub eight-counts : length (replacedInEach e h) ≡ 8
+  unfolding replacedInEach
   eight-counts = refl
 
-  pub count-of : (k : ℕ) → k < 8 → getD (countsOf e h) k 0 ≡ replacedIn (fieldOf k e) h
-  unfolding countsOf
-  count-of k l = table (countsOf e h) 0 8 (λ k. replacedIn (fieldOf k e) h) refl k l
+  pub count-of : (k : ℕ) → k < 8 → getD (replacedInEach e h) k 0 ≡ replacedIn (fieldOf k e) h
+  unfolding replacedInEach
+  count-of k l = table (replacedInEach e h) 0 8 (λ k. replacedIn (fieldOf k e) h) refl k l
 
 -- ---- the first k
 

@@ -26,7 +26,7 @@ use Rattle.fetch.specs.Fetch.{textOf, fetchRule, Outcome, wrote, refuse, number
 use Rattle.fetch.proofs.Fetches.{textIn, fetch-unknown, fetch-opens}
 use Rattle.texts.specs.declared.Laid.{Laid}
 use Rattle.texts.specs.declared.FetchedTexts.{FetchedTexts}
-use Rattle.texts.specs.Eight.{numbers, textsOf, eightRule, joined, startsFrom, Texts, laidOut, textsAfter, textAt, FetchesAll, AsFetched, Lies, allPassed, countsOf, Lays}
+use Rattle.texts.specs.Eight.{numbers, textsOf, eightRule, joined, startsFrom, Texts, laidOut, textsAfter, textAt, FetchesAll, AsFetched, Lies, allPassed, replacedInEach, Lays}
 use Rattle.texts.proofs.Joins.{eight, text-of, before, none-before, grown, all-before, split-after, starts-at, length-at}
 
 -- ---- the answers
@@ -63,13 +63,13 @@ eight-opens kind s = read-map true textsIn (openRule kind) s
 
 -- ---- the numbers beside the answer
 
-pub counts-kept : (e n : ℕ) (h : List ℕ) → countsOf e h ≡ map (passedOn (wrote n)) (countsOf e h)
-unfolding countsOf
+pub counts-kept : (e n : ℕ) (h : List ℕ) → replacedInEach e h ≡ map (passedOn (wrote n)) (replacedInEach e h)
+unfolding replacedInEach
 counts-kept e n h = refl
 
 -- of a refusal each is 0
-pub counts-dropped : (e : ℕ) (h : List ℕ) (a : Fetched) {r : Refusal} → a ≡ Refused r → replicate 8 0 ≡ map (passedOn (outcomeOf a)) (countsOf e h)
-unfolding countsOf
+pub counts-dropped : (e : ℕ) (h : List ℕ) (a : Fetched) {r : Refusal} → a ≡ Refused r → replicate 8 0 ≡ map (passedOn (outcomeOf a)) (replacedInEach e h)
+unfolding replacedInEach
 counts-dropped e h a p = rw p
 
 module _ (kind : ℕ) (s : List ℕ) where
@@ -84,8 +84,8 @@ module _ (kind : ℕ) (s : List ℕ) where
   pub none-passed : (a : Fetched) {r : Refusal} → a ≡ Refused r → replicate 8 0 ≡ given (outcomeOf a) (read true (openRule kind) s)
   none-passed a p = rw p
 
-  pub some-passed : (o : Outcome) (x : Header) (n : ℕ) → read true (openRule kind) s ≡ got x n → map (passedOn o) (countsOf (x .says .edition) (x .bytes)) ≡ given o (read true (openRule kind) s)
-  unfolding countsOf
+  pub some-passed : (o : Outcome) (x : Header) (n : ℕ) → read true (openRule kind) s ≡ got x n → map (passedOn o) (replacedInEach (x .says .edition) (x .bytes)) ≡ given o (read true (openRule kind) s)
+  unfolding replacedInEach
   some-passed o x n e = rw e
 
 -- ---- each text is Fetch's

@@ -93,8 +93,8 @@ allPassed kind old s = map (λ number. passedOn (fetched (length old) (mapRead j
 -- ---- Steps of the code.
 
 -- the units replaced in each text of a header h of edition e, by their numbers
-unfoldable pub countsOf : ℕ → List ℕ → List ℕ
-countsOf e h = map (λ number. replacedIn (fieldOf (number - 1) e) h) numbers
+unfoldable pub replacedInEach : ℕ → List ℕ → List ℕ
+replacedInEach e h = map (λ number. replacedIn (fieldOf (number - 1) e) h) numbers
 
 -- the bytes that the first k texts take in the header
 abbrev pub storedBytes : ChemstationMetadata → ℕ → ℕ

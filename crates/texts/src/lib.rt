@@ -27,7 +27,7 @@ ghost use Rattle.written.specs.Written.{written};
 ghost use Rattle.layouts.specs.Table.{fieldOf};
 ghost use Rattle.metadata.specs.Metadata.{metadataRule};
 ghost use Rattle.fetch.specs.Fetch.{textOf, fetchRule, outcomeOf, Fetches, replacedIn, passedOn};
-ghost use Rattle.texts.specs.Eight.{textsOf, eightRule, joined, Texts, lentTexts, FetchesAll, AsFetched, Lies, allPassed, countsOf, storedBytes, Lays};
+ghost use Rattle.texts.specs.Eight.{textsOf, eightRule, joined, Texts, lentTexts, FetchesAll, AsFetched, Lies, allPassed, replacedInEach, storedBytes, Lays};
 
 // The answer, and beside it how many units of each text were replaced by U+FFFD: 0s where they are refused.
 pub struct FetchedTexts {
@@ -138,7 +138,7 @@ fn fit(d: ChemstationMetadata, h: &[u8], room: usize) -> bool
 // Puts the eight texts at the start of out, which has room for them.
 fn lay_out(d: ChemstationMetadata, h: &[u8], out: &mut [u8]) -> Laid
     requires { ⌜ (metadataRule (now h) ≡ gives d) × (length (joined (textsOf (d .edition) (now h))) ≤ length (now out)) ⌝ }
-    ensures { λ r. ⌜ Lays r (now (out .entry)) (now (out .exit)) (textsOf (d .edition) (now (h .entry))) (countsOf (d .edition) (now (h .entry))) ⌝ }
+    ensures { λ r. ⌜ Lays r (now (out .entry)) (now (out .exit)) (textsOf (d .edition) (now (h .entry))) (replacedInEach (d .edition) (now (h .entry))) ⌝ }
 {
     let mut starts = [0usize; 8];
     let mut lengths = [0usize; 8];
@@ -171,7 +171,7 @@ fn fetch_all(
 ) -> FetchedTexts
     requires { ⌜ metadataRule (now h) ≡ gives d ⌝ }
     ensures texts { λ r. ⌜ FetchesAll (r .answer) (lentTexts out starts lengths) (got (textsOf (d .edition) (now (h .entry))) (length (now (h .entry)))) ⌝ }
-    ensures replaced { λ r. ⌜ r .replaced ≡ map (passedOn (outcomeOf (r .answer))) (countsOf (d .edition) (now (h .entry))) ⌝ }
+    ensures replaced { λ r. ⌜ r .replaced ≡ map (passedOn (outcomeOf (r .answer))) (replacedInEach (d .edition) (now (h .entry))) ⌝ }
 {
     if !fit(d, h, out.len()) {
         return refused(Refusal::LentLength);

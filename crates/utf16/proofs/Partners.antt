@@ -11,7 +11,7 @@ use borrow.Author.Tests.{ltb-true, ltb-false}
 use borrow.Table.Steps.{cases as by}
 use Rattle.utf8.specs.Utf8.{within}
 use Rattle.utf8.proofs.Cases.{never, first, second, least, most, inside, not-first}
-use Rattle.utf16.specs.Utf16.{isHigh, isLow, lacksPartner, placesBelow, unpaired, lone}
+use Rattle.utf16.specs.Utf16.{isHigh, isLow, lacksPartner, placesBelow, unpaired, replacedAlone}
 
 -- ---- places
 
@@ -97,7 +97,7 @@ forget p (v ∷ us) t =
 
 -- ---- what units begin with
 
-pub lone-counts : (u : ℕ) (us : List ℕ) → (isHigh u && isLow (getD us 0 0)) ≡ false → unpaired (u ∷ us) ≡ lone u + unpaired us
+pub lone-counts : (u : ℕ) (us : List ℕ) → (isHigh u && isLow (getD us 0 0)) ≡ false → unpaired (u ∷ us) ≡ replacedAlone u + unpaired us
 unfolding unpaired
 lone-counts u us t =
     behind-cons 0 u us

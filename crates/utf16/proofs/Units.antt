@@ -15,7 +15,7 @@ use borrow.Table.Steps.{cases as by}
 use Rattle.utf16.specs.declared.Piece.{Piece}
 use Rattle.utf8.specs.Utf8.{Scalar, Scalars, Utf8, encode, encodes, within}
 use Rattle.common.specs.Bytes.{AreBytes}
-use Rattle.utf16.specs.Utf16.{units, isHigh, isLow, alone, pair, utf16, utf8Of, unpaired, lone, pieceOf, unitAt, First}
+use Rattle.utf16.specs.Utf16.{units, isHigh, isLow, alone, pair, utf16, utf8Of, unpaired, replacedAlone, pieceOf, unitAt, First}
 use Rattle.utf8.proofs.Cases.{never, both, first, second, least, most, inside}
 use Rattle.utf8.proofs.Decodes.{encode-length}
 use Rattle.written.proofs.Puts.{paste-next}
@@ -49,7 +49,7 @@ unit-none s at h = sym (ap (λ (l : List ℕ). getD l 0 0) (units-none s at h))
 -- ---- a piece, by the tests
 
 module _ (u v : ℕ) where
-  pub lone-piece : (x n : ℕ) → x ≡ alone u → n ≡ lone u → (isHigh u && isLow v) ≡ false → _≡_ {A = Piece} (record { scalar = x; width = 2; replaced = n }) (pieceOf u v)
+  pub lone-piece : (x n : ℕ) → x ≡ alone u → n ≡ replacedAlone u → (isHigh u && isLow v) ≡ false → _≡_ {A = Piece} (record { scalar = x; width = 2; replaced = n }) (pieceOf u v)
   lone-piece x n e f t = simp (e, f, t)
 
   pub pair-piece : isHigh u ≡ true → isLow v ≡ true → _≡_ {A = Piece} (record { scalar = pair u v; width = 4; replaced = 0 }) (pieceOf u v)
@@ -59,7 +59,7 @@ module _ (u v : ℕ) where
   low-piece h =
       let none = lt-leb 0xD800 u h in
       let e : u ≡ alone u = sym (simp none) in
-      let f : 0 ≡ lone u = sym (simp none) in
+      let f : 0 ≡ replacedAlone u = sym (simp none) in
       lone-piece u 0 e f (simp none)
 
 -- ---- a piece is a scalar

@@ -47,7 +47,7 @@ encodes16 (c ∷ cs) = encode16 c ++ encodes16 cs
 -- D91: the units us are well-formed UTF-16, and cs are its scalars.
 pub record IsUtf16 (us cs : List ℕ) : Type 0 where
   pub scalars : Scalars cs
-  pub units : us ≡ encodes16 cs
+  pub encoded : us ≡ encodes16 cs
 
 -- the UTF-8 of bytes that are UTF-16
 unfoldable pub utf8Of : List ℕ → List ℕ
@@ -77,12 +77,12 @@ reported NoRoom count = 0
 -- ---- Steps of the code.
 
 -- how many units are replaced where u is part of no pair
-abbrev pub lone : ℕ → ℕ
-lone u = cond (within 0xD800 0xDFFF u) 1 0
+abbrev pub replacedAlone : ℕ → ℕ
+replacedAlone u = cond (within 0xD800 0xDFFF u) 1 0
 
 -- what a unit and the next begin with; 0 stands for a unit that is not there, and ends no pair
 abbrev pub pieceOf : ℕ → ℕ → Piece
-pieceOf u v = cond (isHigh u && isLow v) (record { scalar = pair u v; width = 4; replaced = 0 }) (record { scalar = alone u; width = 2; replaced = lone u })
+pieceOf u v = cond (isHigh u && isLow v) (record { scalar = pair u v; width = 4; replaced = 0 }) (record { scalar = alone u; width = 2; replaced = replacedAlone u })
 
 abbrev pub unitAt : List ℕ → ℕ → ℕ
 unitAt s at = getD (units (drop at s)) 0 0

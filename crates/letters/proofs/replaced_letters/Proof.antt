@@ -12,7 +12,7 @@ unfolding unpaired
 of-units = record { letters = letters; none = none; some = some; inverts = inverts; reversed = refl; doubled = refl; last = refl; paired = refl; stored = refl }
 
 returns : tie.Need-returns
-returns c = record { units = of-units; fetch = λ kind number s r old new o g. tells kind number s r old new g o; texts = λ kind s r m g. tell-all kind s r m g }
+returns c = record { decoder = of-units; fetch = λ kind number s r old new o g. tells kind number s r old new g o; texts = λ kind s r m g. tell-all kind s r m g }
 
 pub replaced-letters-spec : {M : Type 1} → statement M
 replaced-letters-spec = tie.close (tie.spec returns)

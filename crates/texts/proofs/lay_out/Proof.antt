@@ -5,13 +5,13 @@ use native.Mathlib.Omega.{arith}
 use denote.Ref.{now}
 use lib.ListN.{length}
 use borrow.Author.Needs.{needs}
-use Rattle.texts.specs.Eight.{textsOf, countsOf}
+use Rattle.texts.specs.Eight.{textsOf, replacedInEach}
 use Rattle.texts.proofs.Joins.{Laying, lay-starts, eight, text-of, eight-counts, count-of, lay-fits, lays-on, same-room, laid}
 use Rattle.texts.proofs.lay_out.Statement.{statement}
 use Rattle.texts.proofs.lay_out.Tie as tie
 
 abbrev Inv-loop : tie.InvT-loop
-Inv-loop d h out₀ starts₀ lengths₀ replaced₀ n₀ k₀ out starts lengths replaced n k = Laying (textsOf (d .edition) h) (countsOf (d .edition) h) out₀ starts lengths replaced out n k
+Inv-loop d h out₀ starts₀ lengths₀ replaced₀ n₀ k₀ out starts lengths replaced n k = Laying (textsOf (d .edition) h) (replacedInEach (d .edition) h) out₀ starts lengths replaced out n k
 
 abbrev μ-loop : tie.MeasureT-loop
 μ-loop d h out₀ starts₀ lengths₀ replaced₀ n₀ k₀ out starts lengths replaced n k = 8 - k

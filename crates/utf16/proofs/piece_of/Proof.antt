@@ -4,7 +4,7 @@ use native.Mathlib.Omega.{arith}
 use lib.Dec.{leb}
 use borrow.Author.Needs.{needs}
 use borrow.Author.Tests.{lt-leb}
-use Rattle.utf16.specs.Utf16.{alone, lone, isHigh, isLow}
+use Rattle.utf16.specs.Utf16.{alone, replacedAlone, isHigh, isLow}
 use Rattle.utf8.proofs.Cases.{yes, no, least, most, outside, inside, not-first, not-second}
 use Rattle.utf16.proofs.Units.{lone-piece, pair-piece}
 use Rattle.utf16.proofs.piece_of.Statement.{statement}
@@ -18,7 +18,7 @@ returns c =
     let x = c .before .before .args in
     let i = no (c .before .within .ensures) (c .if1 .taken) in
     let e : x .u ≡ alone (x .u) = sym (simp i) in
-    let n : 0 ≡ lone (x .u) = sym (simp i) in
+    let n : 0 ≡ replacedAlone (x .u) = sym (simp i) in
     lone-piece (x .u) (x .v) _ _ e n (not-first (isLow (x .v)) (outside 0xD800 0xDFFF 0xD800 0xDBFF (x .u) (omega arith) (omega arith) i))
 
 returns-2 : tie.Need-returns-2
@@ -26,7 +26,7 @@ returns-2 c =
     let x = c .before .before .before .args in
     let i = yes (c .before .before .within .ensures) (c .before .if1 .left) in
     let e : 0xFFFD ≡ alone (x .u) = sym (simp i) in
-    let n : 1 ≡ lone (x .u) = sym (simp i) in
+    let n : 1 ≡ replacedAlone (x .u) = sym (simp i) in
     lone-piece (x .u) (x .v) _ _ e n (not-first (isLow (x .v)) (not-second (leb 0xD800 (x .u)) (lt-leb _ _ (c .if2 .taken))))
 
 within-requires-2 : tie.Need-within-requires-2
@@ -37,7 +37,7 @@ returns-3 c =
     let x = c .before .before .before .before .before .args in
     let i = yes (c .before .before .before .before .within .ensures) (c .before .before .before .if1 .left) in
     let e : 0xFFFD ≡ alone (x .u) = sym (simp i) in
-    let n : 1 ≡ lone (x .u) = sym (simp i) in
+    let n : 1 ≡ replacedAlone (x .u) = sym (simp i) in
     lone-piece (x .u) (x .v) _ _ e n (not-second (isHigh (x .u)) (no (c .before .within2 .ensures) (c .if3 .taken)))
 
 sub-high : tie.Need-sub-high
