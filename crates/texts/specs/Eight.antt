@@ -86,7 +86,7 @@ pub record Lies (r : Fetched) (m : Both Texts Texts) : Type 0 where
 
 -- ---- Units that were replaced.
 
--- beside the answer, of each text what Fetch passes of it; of none where they are refused. By the lent buffer before and the bytes of the file
+-- the numbers beside the answer, of each text as Fetch passes its own, 0 for each where they are refused; by the lent buffer before and the bytes of the file
 unfoldable pub allPassed : ℕ → List ℕ → List ℕ → List ℕ
 allPassed kind old s = map (λ number. passedOn (fetched (length old) (mapRead joined (read true (eightRule kind) s))) (replacedBy number (read true (openRule kind) s))) numbers
 
