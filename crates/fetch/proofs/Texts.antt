@@ -75,35 +75,43 @@ stored (Pascal start width) h = trimmedText (decode (raw h start))
 stored (PascalToEnd start) h = trimmedText (decode (raw h start))
 stored (Utf16 start) h = part (start + 1) (2 * getD h start 0) h
 
--- old editions hold UTF-8, and new ones UTF-16; a text that an edition lacks is empty in both
-as-it-is : (f : TextField) (e : ℕ) (h : List ℕ) → e ≤ 102 → suits f e ≡ true → stored f h ≡ textOf f h
-unfolding textOf
-as-it-is Absent e h l s = refl
-as-it-is (Pascal start width) e h l s = refl
-as-it-is (PascalToEnd start) e h l s = refl
-as-it-is (Utf16 start) e h l s = absurd (omega (arith, ltb-true 102 e s))
+-- old editions hold UTF-8, and new ones UTF-16; an edition of either kind may lack a text
+module _ (P : TextField → Type 0) (f : TextField) (e : ℕ) (s : suits f e ≡ true) (none : P Absent) where
+  old-field : e ≤ 102 → ((start width : ℕ) → P (Pascal start width)) → ((start : ℕ) → P (PascalToEnd start)) → P f
+  old-field l p q = go f s
+    where
+      go : (f : TextField) → suits f e ≡ true → P f
+      go Absent s = none
+      go (Pascal start width) s = p start width
+      go (PascalToEnd start) s = q start
+      go (Utf16 start) s = absurd (omega (arith, ltb-true 102 e s))
 
-as-units : (f : TextField) (e : ℕ) (h : List ℕ) → 102 < e → suits f e ≡ true → utf8Of (stored f h) ≡ textOf f h
-unfolding textOf utf8Of utf16 encodes
-as-units Absent e h l s = refl
-as-units (Pascal start width) e h l s = absurd (omega (arith, leb-true e 102 s))
-as-units (PascalToEnd start) e h l s = absurd (omega (arith, leb-true e 102 s))
-as-units (Utf16 start) e h l s = refl
+  new-field : 102 < e → ((start : ℕ) → P (Utf16 start)) → P f
+  new-field l p = go f s
+    where
+      go : (f : TextField) → suits f e ≡ true → P f
+      go Absent s = none
+      go (Pascal start width) s = absurd (omega (arith, leb-true e 102 s))
+      go (PascalToEnd start) s = absurd (omega (arith, leb-true e 102 s))
+      go (Utf16 start) s = p start
 
--- of old ones no unit is replaced
-none-replaced : (f : TextField) (e : ℕ) (h : List ℕ) → e ≤ 102 → suits f e ≡ true → 0 ≡ replacedIn f h
-unfolding replacedIn
-none-replaced Absent e h l s = refl
-none-replaced (Pascal start width) e h l s = refl
-none-replaced (PascalToEnd start) e h l s = refl
-none-replaced (Utf16 start) e h l s = absurd (omega (arith, ltb-true 102 e s))
+module _ (k e : ℕ) (h : List ℕ) where
+  as-it-is : e ≤ 102 → stored (fieldOf k e) h ≡ textOf (fieldOf k e) h
+  unfolding textOf
+  as-it-is l = old-field (λ f. stored f h ≡ textOf f h) (fieldOf k e) e (field-suits k e) refl l (λ start width. refl) λ start. refl
 
-units-replaced : (f : TextField) (e : ℕ) (h : List ℕ) → 102 < e → suits f e ≡ true → unpaired (units (stored f h)) ≡ replacedIn f h
-unfolding replacedIn unpaired
-units-replaced Absent e h l s = refl
-units-replaced (Pascal start width) e h l s = absurd (omega (arith, leb-true e 102 s))
-units-replaced (PascalToEnd start) e h l s = absurd (omega (arith, leb-true e 102 s))
-units-replaced (Utf16 start) e h l s = refl
+  as-units : 102 < e → utf8Of (stored (fieldOf k e) h) ≡ textOf (fieldOf k e) h
+  unfolding textOf utf8Of utf16 encodes
+  as-units l = new-field (λ f. utf8Of (stored f h) ≡ textOf f h) (fieldOf k e) e (field-suits k e) refl l λ start. refl
+
+  -- of old ones no unit is replaced
+  pub old-units : e ≤ 102 → 0 ≡ replacedIn (fieldOf k e) h
+  unfolding replacedIn
+  old-units l = old-field (λ f. 0 ≡ replacedIn f h) (fieldOf k e) e (field-suits k e) refl l (λ start width. refl) λ start. refl
+
+  units-replaced : 102 < e → unpaired (units (stored (fieldOf k e) h)) ≡ replacedIn (fieldOf k e) h
+  unfolding replacedIn unpaired
+  units-replaced l = new-field (λ f. unpaired (units (stored f h)) ≡ replacedIn f h) (fieldOf k e) e (field-suits k e) refl l λ start. refl
 
 abbrev pub Found : TextField → List ℕ → Place → Type 0
 Found f h p = ((i : ℕ) → Fits w8 (getD h i 0)) → Holds h p (stored f h)
@@ -146,13 +154,13 @@ module _ (h : List ℕ) (d : ChemstationMetadata) (k : ℕ) (e : metadataRule h 
   taken = rw (add-sub-cancel-left (getD (d .«text_starts») k 0) (getD (d .«text_lengths») k 0)) (there .bytes)
 
   pub new-text : 102 < d .edition → utf8Of bytes ≡ textOf (fieldOf k (d .edition)) h
-  new-text l = ap utf8Of taken ∙ as-units (fieldOf k (d .edition)) (d .edition) h l (field-suits k (d .edition))
+  new-text l = ap utf8Of taken ∙ as-units k (d .edition) h l
 
   pub new-units : 102 < d .edition → unpaired (units bytes) ≡ replacedIn (fieldOf k (d .edition)) h
-  new-units l = ap (λ (bs : List ℕ). unpaired (units bs)) taken ∙ units-replaced (fieldOf k (d .edition)) (d .edition) h l (field-suits k (d .edition))
+  new-units l = ap (λ (bs : List ℕ). unpaired (units bs)) taken ∙ units-replaced k (d .edition) h l
 
   pub old-text : d .edition ≤ 102 → bytes ≡ textOf (fieldOf k (d .edition)) h
-  old-text l = taken ∙ as-it-is (fieldOf k (d .edition)) (d .edition) h l (field-suits k (d .edition))
+  old-text l = taken ∙ as-it-is k (d .edition) h l
 
   -- no byte of a header makes more than two of a text
   pub text-bounded : length (textOf (fieldOf k (d .edition)) h) ≤ 2 * getD (d .«text_lengths») k 0
@@ -160,6 +168,3 @@ module _ (h : List ℕ) (d : ChemstationMetadata) (k : ℕ) (e : metadataRule h 
       let n = length-take (getD (d .«text_starts») k 0 + getD (d .«text_lengths») k 0 - getD (d .«text_starts») k 0) (drop (getD (d .«text_starts») k 0) h) in
       by (ltb 102 (d .edition)) (λ t. omega (arith, n, ap length (new-text (ltb-true 102 (d .edition) t)), twice bytes))
       λ t. omega (arith, n, ap length (old-text (ltb-false 102 (d .edition) t)))
-
-pub old-units : (k e : ℕ) (h : List ℕ) → e ≤ 102 → 0 ≡ replacedIn (fieldOf k e) h
-old-units k e h l = none-replaced (fieldOf k e) e h l (field-suits k e)

@@ -1,8 +1,8 @@
 -- The number beside Fetch's answer, and those of all texts at once.
 use mathlib.Core.Path.{_≡_, refl, sym, ap, _∙_, subst}
-use mathlib.Core.Bool.{Bool, true, false, cond, _&&_, false≢true}
+use mathlib.Core.Bool.{true, false, cond, _&&_, false≢true}
 use mathlib.Core.List.{List, [], _∷_, _++_, map}
-use Prim.Native.Nat.{ℕ, zero, suc, _+_, _-_, _*_, _≤_, _<_}
+use Prim.Native.Nat.{ℕ, zero, suc, _+_, _-_, _*_, _≤_}
 use native.Mathlib.Nat.{zero-add}
 use native.Mathlib.Omega.{arith}
 use denote.Triple.Both.{Both}
@@ -13,7 +13,7 @@ use borrow.Table.Steps.{cases as by}
 use Rattle.rules.specs.Rule.{Read, got, stops, Stop, read, mapRead}
 use Rattle.common.specs.Bytes.{AreBytes, part}
 use Rattle.common.proofs.Sizes.{bytes-take, bytes-drop, bytes-append}
-use Rattle.common.proofs.Every.{Every, Gets, gets, at-gives, at-field, every-then, any-outcome}
+use Rattle.common.proofs.Every.{Every, gets, at-gives, at-field, every-then, any-outcome}
 use Rattle.utf8.specs.Utf8.{Scalar, Scalars, Utf8, encodes, Decoded, bad, text, decode}
 use Rattle.utf8.proofs.Cases.{never}
 use Rattle.utf8.proofs.Decodes.{exactly}

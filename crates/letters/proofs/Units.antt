@@ -1,17 +1,17 @@
 -- Units piece by piece: which are replaced, and what they are the UTF-16 of.
-use mathlib.Core.Path.{_≡_, refl, sym, ap, ap₂, _∙_, subst}
+use mathlib.Core.Path.{_≡_, refl, sym, ap, ap₂, _∙_}
 use mathlib.Core.Logic.{⊎-elim}
 use mathlib.Core.Bool.{Bool, true, false, cond, _&&_}
 use mathlib.Core.List.{List, [], _∷_, _++_}
-use Prim.Native.Nat.{ℕ, _+_, _-_, _*_, _/_, _%_, _≤_, _<_}
+use Prim.Native.Nat.{ℕ, _+_, _-_, _/_, _%_, _≤_, _<_}
 use native.Mathlib.Omega.{arith}
 use lib.Dec.{ltb, eqb}
 use lib.ListN.{getD}
-use borrow.Author.Tests.{ltb-true, ltb-false, le-ltb, lt-ltb, eqb-true}
+use borrow.Author.Tests.{ltb-false, le-ltb, lt-ltb, eqb-true}
 use borrow.Table.Steps.{cases as by}
 use Rattle.common.specs.Bytes.{AreBytes}
-use Rattle.utf8.specs.Utf8.{Scalar, Scalars, Utf8, text, decode, within}
-use Rattle.utf8.proofs.Cases.{never, both, first, second, least, most, inside, outside, not-first, not-second}
+use Rattle.utf8.specs.Utf8.{Scalar, Scalars, Utf8, text, within}
+use Rattle.utf8.proofs.Cases.{both, first, second, least, most, inside, outside, not-first, not-second}
 use Rattle.utf8.proofs.Decodes.{exactly}
 use Rattle.utf16.specs.Utf16.{units, isHigh, isLow, alone, pair, utf16, encode16, encodes16, IsUtf16, utf8Of, unpaired, replacedAlone}
 use Rattle.utf16.proofs.Units.{Small, small-units, scalars, recodes, lone-is, pair-is}

@@ -190,7 +190,7 @@ fn has_room(s: &[u8], room: usize) -> bool
     }
 }
 
-// Puts the UTF-8 of the UTF-16 in s at the start of out, and answers its length.
+// Puts the UTF-8 of the UTF-16 in s at the start of out, and answers its length and how many units were replaced.
 pub fn recode(s: &[u8], out: &mut [u8]) -> Recoded
     requires { ⌜ length (utf8Of (now s)) ≤ length (now out) ⌝ }
     ensures bytes { λ r. ⌜ (r .bytes ≡ length (utf8Of (now (s .entry)))) × (now (out .exit) ≡ utf8Of (now (s .entry)) ++ drop (r .bytes) (now (out .entry))) ⌝ }
