@@ -36,7 +36,15 @@ enum chemstation_kind {
     CHEMSTATION_ARRAY = 6
 };
 
-/* Answers. docs/ANSWERS.md says what can be done about the refusals, 1 to 17. */
+/* How the scans of a run are counted off. Plain: as the original reader does it, so that of a DAD run's last scan only the first point
+ * comes, and UV scans of one point are never counted off. Atlas, for DAD and UV only: a scan is spent when its last point has been
+ * given; a DAD run then ends when no scans and no bytes are due. */
+enum chemstation_reading {
+    CHEMSTATION_PLAIN = 0,
+    CHEMSTATION_ATLAS = 1
+};
+
+/* Answers. docs/ANSWERS.md says what can be done about the refusals, 1 to 18. */
 enum chemstation_answer {
     CHEMSTATION_FINISHED = 0,
     CHEMSTATION_UNKNOWN_KIND = 1,
@@ -56,6 +64,7 @@ enum chemstation_answer {
     CHEMSTATION_LENT_LENGTH = 15,
     CHEMSTATION_UNKNOWN_TEXT = 16,
     CHEMSTATION_SUM_OUT_OF_RANGE = 17,
+    CHEMSTATION_KIND_WITHOUT_ATLAS = 18,
     CHEMSTATION_MORE_BYTES = 101, /* the bytes end inside the header or a record, and were not told to be the last */
     CHEMSTATION_FULL = 102,       /* the columns are full */
     CHEMSTATION_GIVEN = 103       /* a run was opened, a text or all eight fetched, or a column added up */
@@ -89,10 +98,21 @@ enum { CHEMSTATION_TEXTS_ROOM = 6120 };
  *
  * GIVEN: `header` and `corrections` hold what the places above name. The records begin header[CHEMSTATION_SIZE] bytes into the
  * file. text_starts[i] and text_lengths[i] are where text i + 1 stands in the header, in bytes as stored; 0 and 0 for an empty one.
- * `numbers`, `counts` and *stored_time, which is 0, are the state before the first record, for chemstation_fill.
+ * `numbers`, `counts`, *stored_time, which is 0, and *reading, which is CHEMSTATION_PLAIN, are the state before the first record, for
+ * chemstation_fill.
  * MORE_BYTES, or a refusal (1 to 10, 14): nothing is written. */
 uint8_t chemstation_open(uint8_t kind, const uint8_t *bytes, size_t length, bool last, size_t header[5], double corrections[4],
-                         size_t text_starts[8], size_t text_lengths[8], double numbers[6], size_t counts[4], uint32_t *stored_time);
+                         size_t text_starts[8], size_t text_lengths[8], double numbers[6], size_t counts[4], uint32_t *stored_time,
+                         uint8_t *reading);
+
+/* Opens a DAD or UV run for the atlas reading.
+ *
+ * GIVEN: all is as chemstation_open has it, but *reading is CHEMSTATION_ATLAS.
+ * MORE_BYTES, or a refusal (1, then 18 for a kind other than DAD and UV, both before any byte is looked at; then 2 to 8, 14 as
+ * chemstation_open): nothing is written. */
+uint8_t chemstation_open_atlas(uint8_t kind, const uint8_t *bytes, size_t length, bool last, size_t header[5], double corrections[4],
+                               size_t text_starts[8], size_t text_lengths[8], double numbers[6], size_t counts[4],
+                               uint32_t *stored_time, uint8_t *reading);
 
 /* Fetches a text by its number, 1 to 8, in UTF-8. The bytes are a file's, at least its whole header; they are taken as the last.
  *
@@ -127,29 +147,30 @@ uint8_t chemstation_texts(uint8_t kind, const uint8_t *bytes, size_t length, uin
  * is one.
  *
  * given[CHEMSTATION_RECORDS] records stand at the start of the columns, the places behind them are as they were, and the records
- * took the first given[CHEMSTATION_CONSUMED] bytes. `numbers`, `counts` and *stored_time are the state after the last of them. So it
- * is with each of these answers:
+ * took the first given[CHEMSTATION_CONSUMED] bytes. `numbers`, `counts` and *stored_time are the state after the last of them;
+ * `reading` is part of the state too, and stays what it was when the run was opened. So it is with each of these answers:
  * FULL: there may be more. MORE_BYTES: there are more, or a refusal is due, and the bytes do not tell. FINISHED: the run has
  * ended. A refusal (11 to 14): it cannot be read on.
  * LENT_LENGTH, the lengths differ: no record is given, both numbers of `given` are 0, the columns are as they were, and so is the
  * state (with 0 in the places that its kind has no use for, and 1 for any record type but 0).
- * UNKNOWN_KIND, counts[0] is not 1 to 6: both numbers of `given` are 0, and nothing else is written.
+ * UNKNOWN_KIND, counts[0] is not 1 to 6, or `reading` is neither CHEMSTATION_PLAIN nor CHEMSTATION_ATLAS, or it is CHEMSTATION_ATLAS
+ * and counts[0] is not 4 or 5: both numbers of `given` are 0, and nothing else is written.
  *
  * The state, for who stores it: numbers = time (in minutes; of DAD the scan's, in milliseconds), intensity, slope or wavelength, step,
  * multiplier, offset; counts = kind, scans due, points or bytes due, record type (0 single, else double precision); *stored_time = the
- * stored time of the scan, in milliseconds; 0 where the kind has no such number. Time and intensity: all kinds; slope: FID;
- * wavelength: DAD, UV; step: all but MS; multiplier: all but MS and DAD; offset: FID, MWD; scans due: MS, DAD, UV, array; points due: MS,
- * MWD, UV; bytes due: DAD; record type: array; stored time: MS, DAD, UV. Any stored time goes with any numbers and counts: within a
- * scan `minutes` and `leftover` come of it alone, and `time` of numbers[0] alone.
+ * stored time of the scan, in milliseconds; 0 where the kind has no such number; and `reading`. Time and intensity: all kinds; slope:
+ * FID; wavelength: DAD, UV; step: all but MS; multiplier: all but MS and DAD; offset: FID, MWD; scans due: MS, DAD, UV, array; points
+ * due: MS, MWD, UV; bytes due: DAD; record type: array; stored time: MS, DAD, UV; reading: plain for all kinds, atlas for DAD and UV. Any
+ * stored time goes with any numbers and counts: within a scan `minutes` and `leftover` come of it alone, and `time` of numbers[0] alone.
  *
  * A run in parts: open it with as many bytes as are at hand, more after MORE_BYTES; drop the header's bytes. Then fill, use the rows,
  * drop the bytes consumed, put more behind those that are left where the answer was MORE_BYTES, and fill again until another
  * answer than FULL or MORE_BYTES comes. However the bytes are cut, the same records come. A record with the empty MS scans before it
  * has to stand in the buffer as a whole: if a full buffer gives MORE_BYTES and no record, it is too small. */
-uint8_t chemstation_fill(double numbers[6], size_t counts[4], uint32_t *stored_time, const uint8_t *bytes, size_t length, bool last,
-                         double *time, size_t time_length, double *axis, size_t axis_length, double *unscaled,
-                         size_t unscaled_length, double *scaled, size_t scaled_length, uint32_t *minutes, size_t minutes_length,
-                         uint32_t *leftover, size_t leftover_length, size_t given[2]);
+uint8_t chemstation_fill(double numbers[6], size_t counts[4], uint32_t *stored_time, uint8_t reading, const uint8_t *bytes,
+                         size_t length, bool last, double *time, size_t time_length, double *axis, size_t axis_length,
+                         double *unscaled, size_t unscaled_length, double *scaled, size_t scaled_length, uint32_t *minutes,
+                         size_t minutes_length, uint32_t *leftover, size_t leftover_length, size_t given[2]);
 
 /* Adds the values of a column, one after the other, to *sum, in whole numbers. The caller sets *sum to 0 before the first column; a
  * run in parts goes on with the same *sum. What is added up of a run is `unscaled`, the given[CHEMSTATION_RECORDS] values of each

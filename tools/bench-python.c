@@ -15,6 +15,7 @@ struct run {
     double numbers[6];
     size_t counts[4];
     uint32_t stored_time;
+    uint8_t reading;
 };
 
 struct columns {
@@ -38,7 +39,7 @@ static bool open_run(uint8_t kind, const char *name, struct run *run) {
     run->length = (size_t)file.st_size;
     run->bytes = mmap(NULL, run->length, PROT_READ, MAP_PRIVATE, at, 0);
     return run->bytes != MAP_FAILED && chemstation_open(kind, run->bytes, run->length, true, run->header, corrections, starts, lengths,
-                                                        run->numbers, run->counts, &run->stored_time) == CHEMSTATION_GIVEN;
+                                                        run->numbers, run->counts, &run->stored_time, &run->reading) == CHEMSTATION_GIVEN;
 }
 
 static struct columns allocated(size_t places) {
@@ -49,7 +50,7 @@ static struct columns allocated(size_t places) {
 /* The records; the state in `run` stays. */
 static size_t fill(struct run run, struct columns c, size_t places) {
     size_t given[2], size = run.header[CHEMSTATION_SIZE];
-    chemstation_fill(run.numbers, run.counts, &run.stored_time, run.bytes + size, run.length - size, true, c.time, places, c.axis,
+    chemstation_fill(run.numbers, run.counts, &run.stored_time, run.reading, run.bytes + size, run.length - size, true, c.time, places, c.axis,
                      places, c.unscaled, places, c.scaled, places, c.minutes, places, c.leftover, places, given);
     return given[CHEMSTATION_RECORDS];
 }

@@ -1,6 +1,6 @@
 """What the tests share: checks that are counted, scripts as modules, tools that are run, and headers of small runs.
 
-The tools are run with the log program target/bin/chemlog, or the one that CHEMLOG names.
+The tools are run with the log programs target/bin/chemlog and target/bin/atlaslog, or those that CHEMLOG and ATLASLOG name.
 """
 import os
 import shutil
@@ -10,12 +10,15 @@ import sys
 import time
 from importlib.machinery import SourceFileLoader
 from importlib.util import module_from_spec, spec_from_loader
+from itertools import accumulate
 from pathlib import Path
+from typing import NamedTuple
 
 sys.dont_write_bytecode = True
 ROOT = Path(__file__).resolve().parent.parent
 PROGRAM = os.path.abspath(os.environ.get("CHEMLOG") or ROOT / "target/bin/chemlog")
-os.environ["CHEMLOG"] = PROGRAM  # the tools run in other folders
+ATLASLOG = os.path.abspath(os.environ.get("ATLASLOG") or ROOT / "target/bin/atlaslog")
+os.environ.update(CHEMLOG=PROGRAM, ATLASLOG=ATLASLOG)  # the tools run in other folders
 
 PATIENCE = 20  # seconds
 
@@ -134,6 +137,11 @@ def number_of(bits):
     return float("nan") if bits == "nan" else struct.unpack(">d", bytes.fromhex(bits))[0]
 
 
+def bits_of(number):
+    """A number, but no NaN, as a log has it."""
+    return struct.pack(">d", number).hex().upper()
+
+
 def sum_of(values):
     """What a line t has of these unscaled values: their sum, one by one in whole numbers, or - where it is refused."""
     total = 0
@@ -231,6 +239,9 @@ def half_text(count):
 
 OLDER = """#include <stddef.h>
 unsigned char chemstation_open(void) { return 1; }
+#ifdef ATLAS
+unsigned char chemstation_open_atlas(void) { return 1; }
+#endif
 unsigned char chemstation_text(void) { return 1; }
 unsigned char chemstation_fill(void) { return 1; }
 unsigned char chemstation_sum(void) { return 1; }
@@ -240,10 +251,11 @@ unsigned char chemstation_texts(unsigned char kind, const unsigned char *bytes, 
 WRITES = "for (int i = 0; i < %d; i++) replaced[i] = 0;"
 
 
-def older_library(file, written=None):
-    """A library whose refusals write so many counts; None: one from before there were any."""
+def older_library(file, written=None, atlas=False):
+    """A library whose refusals write so many counts; None: one from before there were any. `atlas`: it opens atlas readings."""
     source = OLDER % (("", "") if written is None else (", size_t *replaced", WRITES % written))
-    subprocess.run(["cc", "-shared", "-fPIC", "-o", str(file), "-x", "c", "-"], input=source.encode(), check=True)
+    words = ["cc", "-shared", "-fPIC", *["-DATLAS"] * atlas, "-o", str(file), "-x", "c", "-"]
+    subprocess.run(words, input=source.encode(), check=True)
     return file
 
 
@@ -284,6 +296,129 @@ def pair_of(line):
     """The whole minutes and the leftover of a line r whose record has an axis: its double gives the stored time again. Else nothing."""
     words = line.split(" ")
     return divmod(round(number_of(words[1]) * 60000), 60000) if words[2] != "-" else ()
+
+
+# ---- the atlas reading
+
+class Spectrum(NamedTuple):
+    """A scan of a DAD or UV run: its stored time, and its points, each added to the one before or, beyond an i16, absolute; and the
+    first wavelength and the step, in twentieths of a nanometre."""
+
+    time: int
+    points: tuple
+    first: int = 4000
+    step: int = 40
+
+
+def point_bytes(points):
+    return b"".join(le("h", d) if -32768 < d < 32768 else le("hi", -32768, d) for d in points)
+
+
+def spectrum_bytes(kind, scan):
+    """The scan in a file; the bytes that no rule reads are EE."""
+    points, last = point_bytes(scan.points), scan.first + scan.step * (len(scan.points) - 1)
+    if kind == 4:
+        return le("HHIHHH", 67, 22 + len(points), scan.time, scan.first, 0xEEEE, scan.step) + b"\xEE" * 8 + points
+    return b"\xEE" * 4 + le("IHHH", scan.time, scan.first, last, scan.step) + b"\xEE" * 8 + points
+
+
+def wavelengths(kind, scan):
+    """In nanometres: DAD divides whole numbers, UV adds the step to a double for each point."""
+    if kind == 4:
+        return [(scan.first + n * scan.step) / 20 for n in range(len(scan.points))]
+    step = scan.step / 20
+    return list(accumulate([step] * len(scan.points), initial=scan.first / 20 - step))[1:]
+
+
+def spectrum_rows(kind, scan):
+    """The records of a scan: time, wavelength, unscaled and scaled, by docs/FORMAT.md, 5.4 and 5.5, without a multiplier."""
+    value, rows = 0, []
+    for wavelength, d in zip(wavelengths(kind, scan), scan.points):
+        value = value + d if -32768 < d < 32768 else d
+        rows.append((scan.time / 60000, wavelength, float(value), value / 2000 if kind == 4 else float(value)))
+    return rows
+
+
+class AtlasRun(NamedTuple):
+    """A DAD or UV run, and what the atlas reading gives of it."""
+
+    name: str
+    kind: int
+    data: bytes
+    rows: list  # its records
+    ends: list = []  # how many bytes behind the header each record ends
+    closing: int = 0
+    behind: int = 0  # bytes behind the end, where it closes with 0
+
+    @property
+    def log(self):
+        lines = [f"r {' '.join(map(bits_of, row))}\n" for row in self.rows]
+        return "".join(["h 2 512\n", *lines, f"t {sum_of(row[2] for row in self.rows)}\n", f"e {self.closing} {len(lines)}\n"])
+
+
+def spectra(name, kind, scans, due=None, rest=b"", count=None, **more):
+    """A run of scans, of which so many are due, if not all, with other bytes behind them. Its records are those of the scans due, or
+    the first `count` of these."""
+    due = len(scans) if due is None else due
+    data = plain(kind, scans=due) + b"".join(spectrum_bytes(kind, scan) for scan in scans) + rest
+    rows = [row for scan in scans[:due] for row in spectrum_rows(kind, scan)]
+    sizes = [len(point_bytes([d])) + 22 * (n == 0) for scan in scans[:due] for n, d in enumerate(scan.points)]
+    return AtlasRun(name, kind, data, rows[:count], list(accumulate(sizes))[:count], **more)
+
+
+def atlas_runs():
+    """Runs and what the atlas reading gives of them: a scan is spent when its last point has been given, and DAD ends when no scans
+    and no bytes are due, at another type, or at a scan without points. All are smaller than the log program's buffer."""
+    def one(d, time=600):
+        return Spectrum(time, (d,))
+
+    pair, more = Spectrum(0, (10, -10)), Spectrum(60001, (100, 70000, -5, -70000, 8))
+    last = Spectrum(4294967295, tuple(range(-20, 20)))
+    for kind in (4, 5):
+        name = {4: "DAD", 5: "UV"}[kind]
+        size = len(spectrum_bytes(kind, pair))
+        yield spectra(f"{name}, two points, one scan due", kind, [pair])
+        yield spectra(f"{name}, three scans", kind, [pair, more, last])
+        yield spectra(f"{name}, three scans and 9 bytes", kind, [pair, more, last], rest=bytes(9), behind=9)
+        yield spectra(f"{name}, two due of three scans", kind, [more, last, pair], due=2, behind=size)
+        yield spectra(f"{name}, one due of two alike", kind, [pair, pair], due=1, behind=size)
+        yield spectra(f"{name}, no scan due", kind, [pair], due=0, behind=size)
+        yield spectra(f"{name}, no scan due and no bytes", kind, [], due=0)
+        yield spectra(f"{name}, three due of two scans", kind, [more, pair], due=3, closing=14)
+        yield spectra(f"{name}, one wavelength", kind, [one(5), one(-7), one(9)])
+        yield spectra(f"{name}, one wavelength, two due of three", kind, [one(5), one(-7), one(9)], due=2, behind=size - 2)
+        yield spectra(f"{name}, one wavelength, four due of three", kind, [one(5), one(-7), one(9)], due=4, closing=14)
+        yield spectra(f"{name}, scans of one point and more", kind, [one(1), pair, one(70000), more, one(2)])
+        yield spectra(f"{name}, an absolute point alone", kind, [one(-70000), one(2**31 - 1)])
+        for lost in range(1, 4):
+            whole = spectra(f"{name}, the last scan cut by {lost}", kind, [more, last], closing=14, count=44 if lost < 3 else 43)
+            yield whole._replace(data=whole.data[:-lost])
+        cut = spectra(f"{name}, cut in an absolute point", kind, [pair, more], closing=14, count=3)
+        yield cut._replace(data=cut.data[: 512 + size + 22 + 2 + 5])
+    yield from atlas_ends(pair, one(5))
+
+
+def atlas_ends(pair, one):
+    """Runs that end otherwise, and lengths of DAD scans that the points do not fill."""
+    yield spectra("DAD, another type", 4, [pair], due=9, rest=le("H", 66))
+    yield spectra("DAD, another type and 20 bytes", 4, [pair], due=9, rest=le("H", 66) + bytes(20), behind=20)
+    yield spectra("DAD, another type at once", 4, [], due=1, rest=le("H", 68) + bytes(7), behind=7)
+    yield spectra("DAD, an empty scan and 3 bytes", 4, [pair], due=9, rest=le("HH", 67, 22) + bytes(18 + 3), behind=3)
+    yield spectra("DAD, a scan of length 0", 4, [one], due=9, rest=le("HH", 67, 0) + bytes(18))
+    yield spectra("DAD, a cut type", 4, [pair], due=9, rest=b"C", closing=14)
+    odd = spectra("DAD, an odd length", 4, [pair, pair])  # of 3 bytes two points of 2 bytes are due
+    yield odd._replace(data=odd.data[:-24] + le("H", 25) + odd.data[-22:])
+    short = spectra("DAD, a length within an absolute point", 4, [pair, Spectrum(0, (70000,))], rest=bytes(5), behind=5)
+    yield short._replace(data=short.data[:-31] + le("H", 24) + short.data[-29:])
+    yield spectra("UV, a start above its end", 5, [one, pair], due=9, rest=bytes(8) + le("HH", 2, 1), closing=12)
+    yield spectra("UV, a step of 0", 5, [one, one], due=9, rest=bytes(8) + le("HHH", 1, 1, 0), closing=13)
+    yield spectra("UV, a bad scan behind the last", 5, [one, one], rest=bytes(8) + le("HHH", 1, 1, 0), behind=14)
+
+
+def atlas_sample():
+    """samples/dad.4 by the atlas reading, from the numbers in tools/make-samples: its log."""
+    rows = [row for scan in (Spectrum(0, (100, -40)), Spectrum(400, (90, -30))) for row in spectrum_rows(4, scan)]
+    return AtlasRun("", 4, b"", rows).log.replace("h 2 512\n", "h 131 4096\n")
 
 
 def changed(env):

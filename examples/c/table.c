@@ -41,6 +41,7 @@ static const char *const meanings[] = {
     "a lent buffer or column has the wrong length",
     "no such text; texts are 1 to 8",
     "the unscaled values do not add up in 64 bits: one is no whole number of a size below 2^53, or a sum leaves the range",
+    "no atlas reading of this kind; it is for DAD and UV",
 };
 
 static const char *meaning_of(uint8_t answer) {
@@ -58,6 +59,7 @@ struct state {
     double numbers[6];
     size_t counts[4];
     uint32_t stored_time;
+    uint8_t reading;
 };
 
 struct columns {
@@ -191,8 +193,8 @@ static int put_end(bool log, uint8_t answer, unsigned long long count) {
 
 /* The records of the bytes at hand. */
 static uint8_t fill(struct state *st, const struct part *p, struct columns *c, size_t given[2]) {
-    return chemstation_fill(st->numbers, st->counts, &st->stored_time, p->bytes, p->length, last(p), c->time, ROWS, c->axis, ROWS,
-                            c->unscaled, ROWS, c->scaled, ROWS, c->minutes, ROWS, c->leftover, ROWS, given);
+    return chemstation_fill(st->numbers, st->counts, &st->stored_time, st->reading, p->bytes, p->length, last(p), c->time, ROWS, c->axis,
+                            ROWS, c->unscaled, ROWS, c->scaled, ROWS, c->minutes, ROWS, c->leftover, ROWS, given);
 }
 
 /* The records, behind the header, and their sum. */
@@ -221,11 +223,11 @@ static int put_records(bool log, uint8_t kind, struct part *p, struct state *st)
 static int put_run(bool log, uint8_t kind, struct part *p) {
     size_t header[5] = {0}, text_starts[8] = {0}, text_lengths[8] = {0};
     double corrections[4] = {0};
-    struct state st = {{0}, {0}, 0};
+    struct state st = {{0}, {0}, 0, CHEMSTATION_PLAIN};
     if (!refill(p, 0))
         return 2;
     uint8_t answer = chemstation_open(kind, p->bytes, p->length, last(p), header, corrections, text_starts, text_lengths, st.numbers,
-                                      st.counts, &st.stored_time);
+                                      st.counts, &st.stored_time, &st.reading);
     if (answer != CHEMSTATION_GIVEN)
         return put_end(log, answer, 0);
     if (log)

@@ -5,7 +5,9 @@ FID, MS, MWD, DAD, UV, ARRAY = KINDS
 AXES = {MS: "m/z", DAD: "wavelength", UV: "wavelength"}  # what the axis of a record is, where the kind has one
 TIMED = [MS, DAD, UV]  # the kinds whose files store a time with each scan
 SUMMED = [FID, MS, MWD, DAD, UV]  # the kinds whose unscaled values are added up: their logs have a line `t`
+ATLAS = [DAD, UV]  # the kinds that have an atlas reading
 NO_SUM = 17  # the answer to a column that does not add up; it closes no run
+NO_ATLAS = 18  # the answer to an atlas reading of another kind
 
 # The words of docs/ANSWERS.md.
 MEANINGS = {
@@ -27,6 +29,7 @@ MEANINGS = {
     15: "a lent buffer or column has the wrong length",
     16: "no such text; texts are 1 to 8",
     17: "the unscaled values do not add up in 64 bits: one is no whole number of a size below 2^53, or a sum leaves the range",
+    18: "no atlas reading of this kind; it is for DAD and UV",
     "m": "too many empty MS scans in a row for the program's buffer",
 }
 

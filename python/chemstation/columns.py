@@ -56,10 +56,12 @@ def shrunk(memory, element, places):
 
 
 class Reading:
-    """A reading of the bytes behind a header, from the state before the first record. It has the state to itself."""
+    """A reading of the bytes behind a header, from the state before the first record, which ends with whether it is plain or atlas. It
+    has to itself what changes of the state."""
 
     def __init__(self, memory, state):
-        self.memory, self.state = memory, [type(part)(*part) for part in state]
+        *changing, reading = state
+        self.memory, self.state, self.reading = memory, [type(part)(*part) for part in changing], reading[0]
         self.counts = self.state[1]
 
     def columns(self, position, length):
@@ -75,11 +77,12 @@ class Reading:
         """The answer of Fill columns, and how many records and bytes it took."""
         given, start = (c_size_t * 2)(), byref(c_ubyte.from_buffer(self.memory), position)
         lent = [word for part, element in zip(memory, COLUMNS.values()) for word in (byref(element.from_buffer(part)), places)]
-        answer = library().chemstation_fill(*self.state, start, length, last, *lent, given)
+        answer = library().chemstation_fill(*self.state, self.reading, start, length, last, *lent, given)
         return (answer, *given)
 
     def left(self, position, length):
-        """Of the bytes behind the last record of a finished run: what is not the field that closed it (an empty MWD group, for one)."""
+        """Of the bytes behind the last record of a finished run: what is not the field that closed it (an empty MWD group, for one). By
+        the atlas reading no DAD run ends inside a scan, and none are of its last."""
         length -= self.closing_field(position, length)
         scan = min(self.counts[COUNT_DUE], length) if self.counts[0] == DAD else 0
         return Left(scan, length - scan)

@@ -31,16 +31,18 @@ def loaded(path):
     made = "tools/build-library makes it, or CHEMSTATION_LIBRARY names it"
     try:
         library = ctypes.CDLL(path)
-        functions = library.chemstation_open, library.chemstation_text, library.chemstation_texts, library.chemstation_fill, library.chemstation_sum
+        functions = (library.chemstation_open, library.chemstation_open_atlas, library.chemstation_text, library.chemstation_texts,
+                     library.chemstation_fill, library.chemstation_sum)
     except (OSError, AttributeError) as error:
         raise NoLibrary(f"the library cannot be loaded ({error}); {made}") from None
     slice_, numbers, counts = [POINTER(c_ubyte), c_size_t], POINTER(c_double), POINTER(c_size_t)
     state = [numbers, counts, POINTER(c_uint32)]
     columns = [word for element in COLUMNS.values() for word in (POINTER(element), c_size_t)]
-    library.chemstation_open.argtypes = [c_ubyte, *slice_, c_bool, counts, numbers, counts, counts, *state]
+    for opens in (library.chemstation_open, library.chemstation_open_atlas):
+        opens.argtypes = [c_ubyte, *slice_, c_bool, counts, numbers, counts, counts, *state, POINTER(c_ubyte)]
     library.chemstation_text.argtypes = [c_ubyte, c_ubyte, *slice_, *slice_, counts, counts]
     library.chemstation_texts.argtypes = [c_ubyte, *slice_, *slice_, counts, counts, counts]
-    library.chemstation_fill.argtypes = [*state, *slice_, c_bool, *columns, counts]
+    library.chemstation_fill.argtypes = [*state, c_ubyte, *slice_, c_bool, *columns, counts]
     library.chemstation_sum.argtypes = [numbers, c_size_t, POINTER(c_int64)]
     for function in functions:
         function.restype = c_ubyte

@@ -69,16 +69,18 @@ def texts(source, kind):
 
 class Run:
     """A run that was opened: what its header says, in the names of include/chemstation.h; times in minutes; `length`, the bytes of the
-    whole file; `texts`, the eight texts by name, which are attributes too; `replaced`, how many letters of each were replaced, by name.
-    Refused where the bytes are no run of this kind."""
+    whole file; `texts`, the eight texts by name, which are attributes too; `replaced`, how many letters of each were replaced, by name;
+    `atlas`, whether its records are those of the atlas reading. Refused where the bytes are no run of this kind, and where the kind
+    has no atlas reading."""
 
-    def __init__(self, source, kind):
+    def __init__(self, source, kind, *, atlas=False):
         kind = kind_number(kind)
         self._memory, self.length = held(source)
         header, corrections, at = (c_size_t * 5)(), (c_double * 4)(), (EIGHT(), EIGHT())
-        self._state, self._columns = ((c_double * 6)(), (c_size_t * 4)(), (c_uint32 * 1)()), None
-        taken(library().chemstation_open(byte_of(kind), pointer(self._memory), self.length, True, header, corrections, *at, *self._state))
-        self.kind, self.kind_name, self.axis_name = kind, KINDS[kind], AXES.get(kind)
+        self._state, self._columns = ((c_double * 6)(), (c_size_t * 4)(), (c_uint32 * 1)(), (c_ubyte * 1)()), None
+        opens = library().chemstation_open_atlas if atlas else library().chemstation_open
+        taken(opens(byte_of(kind), pointer(self._memory), self.length, True, header, corrections, *at, *self._state))
+        self.kind, self.kind_name, self.axis_name, self.atlas = kind, KINDS[kind], AXES.get(kind), bool(atlas)
         self.edition, self.size, self.sequence, self.vial, self.replicate = header
         self.start, self.end, self.offset, self.multiplier = corrections
         self.texts = texts_in(self._memory, self.size, kind)
@@ -105,6 +107,7 @@ class Run:
         return self.columns().closing
 
 
-def open(source, kind):
-    """The run in a file (its name), or in bytes, of a kind by number or name. The file must not change as long as the run is in use."""
-    return Run(source, kind)
+def open(source, kind, *, atlas=False):
+    """The run in a file (its name), or in bytes, of a kind by number or name. `atlas`: by the atlas reading, which DAD and UV have, and
+    by which a scan is spent when its last point has been given. The file must not change as long as the run is in use."""
+    return Run(source, kind, atlas=atlas)

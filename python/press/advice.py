@@ -13,8 +13,8 @@ from chemstation.answers import ARRAY, DAD, FID, KINDS, MS, MWD, NO_SUM, UV, mea
 USUAL_ENDINGS = {".ms": [MS], ".uv": [DAD, UV], ".ch": [FID, MWD, ARRAY]}
 USUAL_EDITIONS = {2: [MS], 30: [MWD], 31: [DAD, UV], 81: [FID], 130: [MWD], 131: [DAD, UV], 179: [ARRAY]}
 
-# The log program's line, where bytes stand behind the end of a run.
-BEHIND = re.compile(r"chemlog: left: (?:\d+ bytes of the last scan, )?(\d+) bytes in the buffer behind the end of the run")
+# A log program's line, where bytes stand behind the end of a run.
+BEHIND = re.compile(r"(?:chem|atlas)log: left: (?:\d+ bytes of the last scan, )?(\d+) bytes in the buffer behind the end of the run")
 
 
 def named(kinds):
@@ -51,7 +51,7 @@ def of_bytes_behind(count, at_least=""):
 
 def of_left(line):
     """Of a line of the log program: of bytes that a run left behind its end. They were counted in its buffer when it saw them, so there
-    may be more. Bytes of the last scan alone, which nearly every DAD run leaves, are no thing to look at."""
+    may be more. Bytes of the last scan alone, which nearly every plain reading of a DAD run leaves, are no thing to look at."""
     found = BEHIND.fullmatch(line)
     return of_bytes_behind(int(found[1]), "at least ") if found else []
 

@@ -18,6 +18,7 @@ from press import advice
 
 SUBCOMMANDS = ["show", "table", "sum", "texts", "plot", "volume"]
 KINDS_HELP = f"the kind of the run, by number or name: {kinds_in_words()}; the file does not say it"
+ATLAS_HELP = "the atlas reading of DAD and UV: the last scan of a DAD run comes whole, and UV scans of one wavelength are counted off"
 STATUS_HELP = (
     "Status: 0 the run closed with 0; 1 another answer closed it (docs/ANSWERS.md), or the output could not be written; "
     "2 wrong usage, or a file that cannot be read. What to look at, where the kind and the file disagree or letters of a text were "
@@ -65,6 +66,10 @@ def add_run(parser):
     parser.add_argument("file", metavar="FILE", help="the run file")
 
 
+def add_atlas(parser, help=f"{ATLAS_HELP}; for another kind it is refused (18)"):
+    parser.add_argument("--atlas", action="store_true", help=help)
+
+
 def add_form(parser):
     """Text or CSV, and where it goes."""
     parser.add_argument("--csv", action="store_true", help="comma-separated values in place of text")
@@ -80,13 +85,13 @@ def why_not(path):
     return None if os.access(path, os.R_OK) else "is not readable"
 
 
-def given(reader, file, kind):
+def given(reader, file, kind, **how):
     """What a function of the module gives of a file and a kind; of a refused one, what its name tells is said."""
     reason = why_not(file)
     if reason:
         raise GiveUp(f"{file}: {reason}")
     try:
-        return reader(file, kind)
+        return reader(file, kind, **how)
     except chemstation.Refused:
         advise(file, advice.of_name(kind, file))
         raise
@@ -95,8 +100,8 @@ def given(reader, file, kind):
 
 
 def opened(arguments):
-    """The run that `add_run`'s two words name."""
-    return given(chemstation.open, arguments.file, arguments.kind)
+    """The run that `add_run`'s two words name, by the reading that `add_atlas` asks for."""
+    return given(chemstation.open, arguments.file, arguments.kind, atlas=arguments.atlas)
 
 
 def keep_apart(output, files):

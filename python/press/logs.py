@@ -1,4 +1,4 @@
-"""Logs of runs, made by the proved log program: what tools/log-run and `press volume` share.
+"""Logs of runs, made by the proved log programs, one for each reading: what tools/log-run and `press volume` share.
 
 The lines of a log are counted here, and its first and last ones read, so that no log is taken for whole that is not. What it says
 of a run is the program's.
@@ -19,13 +19,13 @@ from concurrent.futures import FIRST_COMPLETED, wait
 from pathlib import Path
 from typing import NamedTuple, Optional
 
-from chemstation.answers import SUMMED
+from chemstation.answers import NO_ATLAS, SUMMED
 from press.cli import GiveUp
 
 ROOT = Path(__file__).resolve().parents[2]
 BLOCK = 1 << 20  # bytes
 TAIL = 300  # bytes; the last three lines of a log are shorter
-ANSWERS = [*map(str, range(15)), "m"]  # those that close a log
+ANSWERS = [*map(str, range(15)), str(NO_ATLAS), "m"]  # those that close a log
 HEADER = re.compile(rb"h \d+ \d+\n")
 SUM = rb"t (-|0|-?[1-9]\d{0,18})"
 CLOSING = re.compile(rb"(?:^|\n)(?:r ([0-9A-F]{16}|nan) [^\n]*\n)?(?:" + SUM + rb"\n)?(e (\d+|m) (0|[1-9]\d*))\n\Z")
@@ -75,7 +75,7 @@ def as_they_end(futures):
         waiting = [future for future in waiting if future not in done]
 
 
-# ---- the log program
+# ---- the log programs
 
 @contextlib.contextmanager
 def build_lock(say):
@@ -94,24 +94,26 @@ def is_program(path):
     return os.access(path, os.X_OK) and not os.path.isdir(path)
 
 
-def build(program, say):
-    """Proves and builds the repository's log program, if it is not there by the time that no other process builds."""
+def build(name, program, say):
+    """Proves and builds a log program of the repository, if it is not there by the time that no other process builds."""
     if not shutil.which("rt"):
-        raise GiveUp("target/bin/chemlog is not there, and neither is rt, which builds it")
+        raise GiveUp(f"target/bin/{name} is not there, and neither is rt, which builds it")
     with build_lock(say):
         if is_program(program):
             return
-        say("proving and building chemlog")
-        if subprocess.run(["rt", "check", "chemlog"], cwd=ROOT, stdout=sys.stderr).returncode != 0:
-            raise GiveUp("rt check chemlog failed")
+        say(f"proving and building {name}")
+        if subprocess.run(["rt", "check", name], cwd=ROOT, stdout=sys.stderr).returncode != 0:
+            raise GiveUp(f"rt check {name} failed")
 
 
-def find_program(say):
-    """The log program: the one that CHEMLOG names, or the repository's own, which is built first if it is not there."""
-    named = os.environ.get("CHEMLOG")
-    program = os.path.abspath(named or ROOT / "target/bin/chemlog")
+def find_program(say, atlas=False):
+    """The log program of a reading: the one that CHEMLOG, or ATLASLOG, names, or the repository's own, which is built first if it
+    is not there."""
+    name = "atlaslog" if atlas else "chemlog"
+    named = os.environ.get(name.upper())
+    program = os.path.abspath(named or ROOT / "target/bin" / name)
     if not named and not is_program(program):
-        build(program, say)
+        build(name, program, say)
     if not is_program(program):
         raise GiveUp(f"{named or program} is not a program")
     return program

@@ -15,7 +15,7 @@ RECORDS = {3: re.compile(rb"(?:r N - N N\n)+".replace(b"N", NUMBER)),
            4: re.compile(rb"(?:r N N N N\n)+".replace(b"N", NUMBER))}
 HEADER = re.compile(rb"h (0|[1-9][0-9]{0,9}) (0|[1-9][0-9]{0,9})\n")
 SUM = re.compile(rb"t (-|0|-?[1-9][0-9]{0,18})\n")
-CLOSING = re.compile(rb"e (1[0-6]|[0-9]|m) (0|[1-9][0-9]{0,18})\n")
+CLOSING = re.compile(rb"e (1[0-68]|[0-9]|m) (0|[1-9][0-9]{0,18})\n")
 BLOCK = 1 << 20  # bytes
 LONG = 1000  # bytes; no line of a log is so long
 

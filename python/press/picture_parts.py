@@ -34,6 +34,7 @@ class Source:
     closing: object = None  # the closing answer, or None where there is none
     header: Optional[Tuple[int, int]] = None  # edition and size
     texts: dict = field(default_factory=dict)  # of the header; a log has none
+    atlas: bool = False  # whether it was read by the atlas reading; a log does not say it
     breaks: frozenset = frozenset()  # records that have a line that cannot be read before them
     faults: List[str] = field(default_factory=list)  # what is refused, cut or damaged; each begins with the word for it
     advice: List[str] = field(default_factory=list)
@@ -134,10 +135,11 @@ def begun(source, view=""):
 
 
 def main_fact(source, name):
+    kind = f"{KINDS[source.kind]}, atlas reading" if source.atlas else KINDS[source.kind]
     header = f"edition {source.header[0]}, header of {source.header[1]:,} bytes" if source.header else "no header"
     answer = source.closing
     closing = "no closing answer" if answer is None else f"closed with {answer}: {meaning(answer)}"
-    return f"{name}: {KINDS[source.kind]}; {header}; {counted(len(source.values), 'record')}; {closing}"
+    return f"{name}: {kind}; {header}; {counted(len(source.values), 'record')}; {closing}"
 
 
 def label_of(name, units="", power=0):

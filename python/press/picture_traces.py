@@ -143,7 +143,7 @@ def line_picture(source, wish):
 
 
 def note_last_scan(picture, source):
-    """Of the last DAD scan only the first point comes, and the end of what is not whole may lie inside a scan."""
+    """By the plain reading only the first point of the last DAD scan comes, and the end of what is not whole may lie inside one."""
     starts = starts_of(source.times)[-3:]
     sizes = [j - i for i, j in zip(starts, starts[1:])]
     if sizes[-1] < sizes[0] and (source.faults or source.kind in (DAD, UV)):

@@ -8,7 +8,7 @@ import sys
 from array import array
 
 import chemstation
-from chemstation.answers import KINDS
+from chemstation.answers import DAD, KINDS, NO_ATLAS
 from press import advice, cli
 from press.picture import picture_of
 from press.picture_log import refusal, source_of_log
@@ -22,12 +22,14 @@ DESCRIPTION = (
     "and run date. The peaks that rise highest above what is around them are marked with time and height. The caption has the "
     "file, its edition, the count of records, the largest and the smallest intensity and the closing answer. What is refused, "
     "cut or damaged is said in red, and so is what to look at where the kind and the file disagree, or where letters of a text "
-    "that the picture shows were replaced by U+FFFD."
+    "that the picture shows were replaced by U+FFFD. A DAD run is drawn by the atlas reading, so that its last scan is whole, unless "
+    "--plain is given; a UV run by the plain one, unless --atlas is; the caption says so where it is the atlas reading. A log "
+    "(--log) is drawn as it is: it does not say which reading it has, and neither option goes with it."
 )
 STATUS = (
     "Status: 0 drawn, and the run closed with 0; 1 drawn, but the run is refused, cut or damaged, as the picture says, "
-    "or the picture could not be written; 2 wrong usage, no matplotlib, a file that cannot be read, or that is no log though "
-    "--log was given."
+    "or not drawn, since there is no such kind or it has no atlas reading, or the picture could not be written; 2 wrong usage, no "
+    "matplotlib, a file that cannot be read, or that is no log though --log was given."
 )
 ENDINGS = "pdf", "svg", "png"
 SHOWN = "sample", "signal_name", "y_units", "run_date"  # the texts that a picture has
@@ -69,12 +71,20 @@ def add_sizes(parser):
                         help="dots an inch, of a PNG and of maps (300)")
 
 
+def add_source(parser):
+    """What is drawn: a log, or a run by one of its readings."""
+    source = parser.add_mutually_exclusive_group()
+    source.add_argument("--log", action="store_true",
+                        help="FILE is the log of a run of that kind, or - for a log on standard input; needs no library")
+    cli.add_atlas(source, f"{cli.ATLAS_HELP}; DAD runs are drawn so without it too")
+    source.add_argument("--plain", action="store_true", help="a DAD run by the plain reading: of its last scan the first point alone")
+
+
 def add(subparsers):
     parser = cli.added(subparsers, "plot", run, HELP, DESCRIPTION, STATUS)
     cli.add_run(parser)
     parser.add_argument("out", metavar="OUT", help="the picture; its ending says what it is: .pdf, .svg or .png")
-    parser.add_argument("--log", action="store_true",
-                        help="FILE is the log of a run of that kind, or - for a log on standard input; needs no library")
+    add_source(parser)
     add_views(parser)
     parser.add_argument("--minutes", nargs=2, metavar=("FROM", "TO"), type=number, help="this part of the time only")
     parser.add_argument("--intensity", nargs=2, metavar=("LOW", "HIGH"), type=number,
@@ -119,24 +129,30 @@ def drawing():
 
 # ---- what is drawn
 
+def by_atlas(arguments):
+    """Whether a run is read by the atlas reading: a DAD run unless it is asked for otherwise, another only if it is asked for."""
+    return arguments.atlas or arguments.kind == DAD and not arguments.plain
+
+
 def source_of_run(arguments):
-    """The records of a run and what its header says; of a refused one, that it is."""
-    name = os.path.basename(arguments.file)
+    """The records of a run and what its header says; of a refused one, that it is. Where the kind, or a reading that it has not, is
+    what is refused, there is nothing to draw."""
+    name, atlas = os.path.basename(arguments.file), by_atlas(arguments)
     try:
-        opened = cli.opened(arguments)
+        opened = cli.given(chemstation.open, arguments.file, arguments.kind, atlas=atlas)
     except chemstation.Refused as error:
-        if arguments.kind not in KINDS:
+        if arguments.kind not in KINDS or error.number == NO_ATLAS:
             raise
         axes = array("d") if arguments.kind in AXES else None
         faults = [refusal(0, error.number)]
-        return Source(name, arguments.kind, array("d"), axes, array("d"), error.number, faults=faults)
+        return Source(name, arguments.kind, array("d"), axes, array("d"), error.number, atlas=atlas, faults=faults)
     columns = opened.columns()
     times, axes, values = (array("d", column.tobytes()) for column in (columns.time, columns.axis, columns.scaled))
     answer = columns.closing.number
     faults = [refusal(len(values), answer)] if answer else []
     unseen = advice.of_replaced({text: count for text, count in opened.replaced.items() if text not in SHOWN})
-    return Source(name, opened.kind, times, axes if opened.kind in AXES else None, values, answer,
-                  (opened.edition, opened.size), opened.texts, faults=faults, advice=advice.of_run(opened, arguments.file), unseen=unseen)
+    return Source(name, opened.kind, times, axes if opened.kind in AXES else None, values, answer, (opened.edition, opened.size),
+                  opened.texts, atlas, faults=faults, advice=advice.of_run(opened, arguments.file), unseen=unseen)
 
 
 def source_of_stream(stream, name, kind):

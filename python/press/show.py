@@ -8,12 +8,14 @@ DESCRIPTION = (
     "Prints what the header of a run says, each field by its name, and how many records the run has, from when to when, the sum of their "
     "unscaled intensities (not for array; - where it is refused), and what closed it. Times are in minutes. Control characters in a text "
     "are written as \\x and two digits. Behind a text of which letters were replaced by U+FFFD (unpaired surrogates in the header) stands "
-    "how many, as [2 replaced]."
+    "how many, as [2 replaced]. With --atlas a line says that the records are those of the atlas reading."
 )
 
 
 def add(subparsers):
-    cli.add_run(cli.added(subparsers, "show", run, HELP, DESCRIPTION))
+    parser = cli.added(subparsers, "show", run, HELP, DESCRIPTION)
+    cli.add_run(parser)
+    cli.add_atlas(parser)
 
 
 def plain(text):
@@ -40,9 +42,10 @@ def texts(named):
 
 
 def header(run):
-    """What the header says, as such pairs."""
+    """What the header says, as such pairs; and that the run is read by the atlas reading, where it is."""
     return [
         ("kind", f"{run.kind} {run.kind_name}"),
+        *[("reading", "atlas")] * run.atlas,
         ("edition", str(run.edition)),
         ("header", f"{run.size} bytes"),
         ("sequence", str(run.sequence)),

@@ -8,7 +8,8 @@ DESCRIPTION = (
     "Prints the sum of the unscaled intensities of a run, in whole numbers of 64 bits, as the line t of its log has it: a decimal number, "
     "or - where one of them is no whole number of a size below 2^53, or where a sum leaves the range; standard error says so in words. "
     "Of a run that closes with another answer than 0 the records before that are added up. A log that closes with m holds the first "
-    "records only, and its line t is of those; here the whole run is read. The intensities of an array run are not added up."
+    "records only, and its line t is of those; here the whole run is read. With --atlas the sum is that of a log of the atlas reading. The "
+    "intensities of an array run are not added up."
 )
 STATUS = (
     "Status: 0 the sum is given, and the run closed with 0; 1 the sum is refused, another answer closed the run (docs/ANSWERS.md), or the "
@@ -18,7 +19,9 @@ STATUS = (
 
 
 def add(subparsers):
-    cli.add_run(cli.added(subparsers, "sum", run, HELP, DESCRIPTION, STATUS))
+    parser = cli.added(subparsers, "sum", run, HELP, DESCRIPTION, STATUS)
+    cli.add_run(parser)
+    cli.add_atlas(parser)
 
 
 def run(arguments):

@@ -11,13 +11,14 @@ DESCRIPTION = (
     "in whole minutes and the milliseconds left over. Each double is written with the digits that give it again. Text has what the header "
     "says above the table, as show prints it, and below it the sum of the unscaled intensities (not for array) and what closed the run. "
     "CSV (--csv) has a line of names and the rows, and where another answer than 0 closed the run a last line that says so and begins "
-    "with #."
+    "with #. With --atlas the rows are those of the atlas reading, which text says above them."
 )
 
 
 def add(subparsers):
     parser = cli.added(subparsers, "table", run, HELP, DESCRIPTION)
     cli.add_run(parser)
+    cli.add_atlas(parser)
     cli.add_form(parser)
 
 

@@ -11,9 +11,9 @@ from chemstation import NoLibrary
 from chemstation.answers import kinds_in_words
 from chemstation.library import library
 from press import logs, volume_list
-from press.cli import GiveUp, added, say
+from press.cli import ATLAS_HELP, GiveUp, add_atlas, added, say
 from press.plot import between, drawing
-from press.volume_runs import ENDINGS, Folder
+from press.volume_runs import ENDINGS, Folder, by_atlas
 from press.volume_table import table
 
 MARK = ".volume"  # in a volume's folder; locked while one is at work there
@@ -28,8 +28,11 @@ log of the run on line 12 is OUT/0012-NAME.log; OUT/0012-NAME.made says what it 
 what there is of a log is OUT/0012-NAME.part. The same command goes on where it was broken off: a log is kept where its line,
 file and log program are those that it was made of, and a picture with its log; what has changed is made again. Files of lines
 that the list no longer has, or whose run is gone, are moved to OUT/old. Where letters of a run's texts were replaced by U+FFFD
-(unpaired surrogates in the header), the table has a row for such runs, 'replaced', and names each below 'To look at'. CHEMLOG may
-name another log program than target/bin/chemlog, which is proved and built the first time."""
+(unpaired surrogates in the header), the table has a row for such runs, 'replaced', and names each below 'To look at'. With --atlas
+the logs of DAD and UV runs are those of the atlas reading, the other kinds' are as ever, and the table counts the former in a row
+'atlas'; in a volume that was begun without it these logs are made again, and no others. Pictures (--plots) are those of `press
+plot`, which draws DAD runs by the atlas reading in any case. CHEMLOG may name another log program than target/bin/chemlog,
+ATLASLOG another than target/bin/atlaslog; each of the two is proved and built the first time that it is needed."""
 STATUS = """Progress is on standard error, the table on standard output. Status: 0 every log closes with 0; 1 a run was refused
 or failed, a line was bad, or a picture is missing; 2 wrong usage, or a list or folder that cannot be used; 130 broken off by
 Ctrl-C."""
@@ -40,6 +43,7 @@ def add(subparsers):
     parser.add_argument("--jobs", metavar="N", type=between(1, 1000, int), default=os.cpu_count() or 1,
                         help="runs at a time; as many as there are processors, if not given")
     parser.add_argument("--plots", action="store_true", help="also draw each run, as OUT/0012-NAME.pdf")
+    add_atlas(parser, f"{ATLAS_HELP}; the runs of other kinds are logged as ever")
     parser.add_argument("list", metavar="LIST", help="a text file with a run on each line")
     parser.add_argument("out", metavar="OUT", help="a new or empty folder, or one that a volume was begun in")
 
@@ -81,6 +85,12 @@ def tidy(folder, lines):
 
 # ---- the work
 
+def programs_for(lines, atlas):
+    """The log programs that the lines need, by whether they are of the atlas reading; the plain one where no line is a run."""
+    needed = {by_atlas(line, atlas) for line in lines if not line.fault} or {False}
+    return {reading: logs.find_program(say, reading) for reading in sorted(needed)}
+
+
 def progress(at, total, result):
     """Says what became of a line; what the log program said is handed on."""
     say(f"{at}/{total}, line {result.line.number}: {result.words}{', kept' if result.kept else ''}")
@@ -119,10 +129,11 @@ def run(arguments):
         library()
     logs.heed_signals()
     with volume_folder(arguments.out):
-        program = logs.find_program(say)
+        programs = programs_for(lines, arguments.atlas)
         tidy(Path(arguments.out), lines)
-        results, broken = worked(Folder(arguments.out, program, arguments.plots), lines, arguments.jobs)
-    sys.stdout.buffer.write(os.fsencode(table(results, len(lines), arguments.plots, missing_library())))
+        folder = Folder(arguments.out, programs, arguments.plots, arguments.atlas)
+        results, broken = worked(folder, lines, arguments.jobs)
+    sys.stdout.buffer.write(os.fsencode(table(results, len(lines), arguments.plots, arguments.atlas, missing_library())))
     if broken:
         say("broken off; the same command goes on where it stopped")
         return 128 + broken

@@ -11,6 +11,7 @@ from pathlib import Path
 from typing import NamedTuple
 
 import chemstation
+from chemstation.answers import ATLAS
 from press import advice, cli, logs
 from press.volume_list import Line
 from press.words import meaning
@@ -40,12 +41,19 @@ class Result(NamedTuple):
         return [f"line {self.line.number}: {text}" for text in words + [f"{self.line.name}: {text}" for text in self.look]]
 
 
-def made_of(line, run, program, log):
-    """The text beside a log, up to what the log program said."""
+def by_atlas(line, atlas):
+    """Whether a line's run is logged by the atlas reading, if that is asked for: the other kinds have none."""
+    return atlas and line.kind in ATLAS
+
+
+def made_of(line, run, program, log, atlas):
+    """The text beside a log, up to what the log program said. Of the plain reading it says nothing, as when there was no other: logs
+    from then are kept."""
+    reading = "reading: atlas\n" if atlas else ""
     return (
         f"list line: {line.text}\n"
         f"file: {run.size} bytes, SHA-256 {run.sha256}\n"
-        f"log program: {program.size} bytes, SHA-256 {program.sha256}\n"
+        f"log program: {program.size} bytes, SHA-256 {program.sha256}\n{reading}"
         f"log: {log.size} bytes, SHA-256 {log.sha256}\n"
         "the log program said:\n"
     )
@@ -77,21 +85,26 @@ def failed(line, words, said=""):
 
 
 class Folder:
-    """A volume's folder, and the programs that fill it."""
+    """A volume's folder, and the programs that fill it; the log programs by whether they are of the atlas reading."""
 
-    def __init__(self, path, program, plots):
-        self.path, self.program, self.plots, self.children = Path(path), program, plots, logs.Children()
+    def __init__(self, path, programs, plots, atlas):
+        self.path, self.programs, self.plots, self.atlas, self.children = Path(path), programs, plots, atlas, logs.Children()
 
     def file(self, line, ending):
         return self.path / (line.stem + ending)
 
+    def program(self, line):
+        """The log program of a line, and whether it is of the atlas reading."""
+        atlas = by_atlas(line, self.atlas)
+        return self.programs[atlas], atlas
+
     def kept(self, line):
         """The log of a line if it can be kept, else None."""
-        log, text = self.file(line, ".log"), self.file(line, ".made")
+        log, text, (program, atlas) = self.file(line, ".log"), self.file(line, ".made"), self.program(line)
         try:
             beside = os.fsdecode(text.read_bytes())
             run, whole = logs.summed(line.path), logs.read_log(log, line.kind)
-            begin = made_of(line, run, logs.summed(self.program), whole.sum)
+            begin = made_of(line, run, logs.summed(program), whole.sum, atlas)
         except (logs.Failed, OSError):
             return None
         return logs.Made(run, whole, beside[len(begin) :]) if beside.startswith(begin) else None
@@ -100,15 +113,15 @@ class Folder:
         """The log of a line, made anew. What stood there goes first, so that no old log is taken for this one."""
         for ending in ENDINGS:
             self.file(line, ending).unlink(missing_ok=True)
-        part = self.file(line, ".part")
-        program = logs.summed(self.program)
+        part, (program, atlas) = self.file(line, ".part"), self.program(line)
+        checksum = logs.summed(program)
         try:
-            made = logs.make_log(self.children, self.program, line.kind, line.path, part)
+            made = logs.make_log(self.children, program, line.kind, line.path, part)
         except (logs.BrokenOff, logs.CannotRead):
             part.unlink(missing_ok=True)
             raise
         with cli.replacing(self.file(line, ".made")) as text:
-            text.write_bytes(os.fsencode(made_of(line, made.run, program, made.log.sum) + made.said))
+            text.write_bytes(os.fsencode(made_of(line, made.run, checksum, made.log.sum, atlas) + made.said))
         os.replace(part, self.file(line, ".log"))
         return made
 
@@ -117,7 +130,8 @@ class Folder:
         picture = self.file(line, PICTURE)
         if picture.exists():
             return []
-        words = [sys.executable, logs.ROOT / "tools/press", "plot", str(line.kind), os.path.abspath(line.path), picture]
+        reading = ["--atlas"] * by_atlas(line, self.atlas)
+        words = [sys.executable, logs.ROOT / "tools/press", "plot", *reading, str(line.kind), os.path.abspath(line.path), picture]
         with tempfile.TemporaryFile() as errors:
             status = self.children.run(words, stdin=subprocess.DEVNULL, stdout=errors, stderr=errors)
             errors.seek(0)

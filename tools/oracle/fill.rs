@@ -34,11 +34,13 @@ extern "C" {
         numbers: *mut f64,
         counts: *mut usize,
         stored_time: *mut u32,
+        reading: *mut u8,
     ) -> u8;
     fn chemstation_fill(
         numbers: *mut f64,
         counts: *mut usize,
         stored_time: *mut u32,
+        reading: u8,
         bytes: *const u8,
         length: usize,
         last: bool,
@@ -157,7 +159,7 @@ fn expected_of(kind: u8, file: &[u8], out: &mut Columns) {
 /// The record count.
 fn library(kind: u8, file: &[u8], out: &mut Columns) -> usize {
     let (mut header, mut starts, mut lengths) = ([0; 5], [0; 8], [0; 8]);
-    let (mut corrections, mut numbers, mut counts, mut stored, mut given) = ([0.0; 4], [0.0; 6], [0; 4], 0, [0; 2]);
+    let (mut corrections, mut numbers, mut counts, mut stored, mut reading, mut given) = ([0.0; 4], [0.0; 6], [0; 4], 0, 0, [0; 2]);
     let ([t, a, u, s], [m, l]) = (&mut out.0, &mut out.1);
     // Each pointer is to so many elements as are told beside it, and nothing overlaps.
     unsafe {
@@ -173,6 +175,7 @@ fn library(kind: u8, file: &[u8], out: &mut Columns) -> usize {
             numbers.as_mut_ptr(),
             counts.as_mut_ptr(),
             &mut stored,
+            &mut reading,
         );
         if opened != 103 {
             return 0;
@@ -182,6 +185,7 @@ fn library(kind: u8, file: &[u8], out: &mut Columns) -> usize {
             numbers.as_mut_ptr(),
             counts.as_mut_ptr(),
             &mut stored,
+            reading,
             rest.as_ptr(),
             rest.len(),
             true,

@@ -29,6 +29,7 @@ import sum_cases
 ROOT = Path(__file__).resolve().parents[2]
 FAULTS = 10  # then it is enough
 COLUMNS = ('time', 'axis', 'unscaled', 'scaled', 'minutes', 'leftover')
+PLAIN = 0  # the reading
 
 # What stands in lent places: no record has such values, and no two places near each other are alike.
 DOUBLES = [-2.0**900 * (1 + i / 2**20) for i in range(200000)]
@@ -66,8 +67,8 @@ class Library:
         self.open_run, self.fill_columns = library.chemstation_open, library.chemstation_fill
         pointer, length, byte, flag = ctypes.c_void_p, ctypes.c_size_t, ctypes.c_uint8, ctypes.c_bool
         self.open_run.restype = self.fill_columns.restype = byte
-        self.open_run.argtypes = [byte, pointer, length, flag] + [pointer] * 7
-        self.fill_columns.argtypes = [pointer] * 4 + [length, flag] + [pointer, length] * 6 + [pointer]
+        self.open_run.argtypes = [byte, pointer, length, flag] + [pointer] * 8
+        self.fill_columns.argtypes = [pointer] * 3 + [byte, pointer, length, flag] + [pointer, length] * 6 + [pointer]
         self.calls = 0
 
     def bytes_of(self, data):
@@ -80,13 +81,14 @@ class Library:
     def opened(self, kind, data, last, lent):
         data_lent = self.bytes_of(data)
         texts = [NUMBERS[:8], NUMBERS[8:16]]
-        header, corrections, starts, lengths, numbers, counts, stored = memory = [
+        header, corrections, starts, lengths, numbers, counts, stored, reading = memory = [
             Lent('Q', lent[0]), Lent('d', lent[1]), Lent('Q', texts[0]), Lent('Q', texts[1]), Lent('d', lent[2]), Lent('Q', lent[3]),
-            Lent('I', [lent[4]], self.calls % 2)]
+            Lent('I', [lent[4]], self.calls % 2), Lent('B', b'\x07')]
         answer = self.open_run(kind, data_lent.address, len(data), last, *(m.address for m in memory))
         if data_lent.array[len(data_lent.front):len(data_lent.front) + len(data)].tobytes() != data:
             raise Fault('bytes', 'nothing written', 'a write')
         data_lent.values('bytes')
+        compared('reading', [PLAIN if answer == minutes.GIVEN else 7], reading.values('reading'))
         if answer != minutes.GIVEN and [starts.values('text starts'), lengths.values('text lengths')] != texts:
             raise Fault('texts', 'nothing written', 'a write')
         starts.values('text starts'), lengths.values('text lengths')
@@ -100,7 +102,7 @@ class Library:
         state = Lent('d', numbers), Lent('Q', counts), Lent('I', [stored], 1 - shift)
         given = Lent('Q', NUMBERS[:2])
         pairs = itertools.chain.from_iterable((l.address, len(column)) for l, column in zip(lent, columns))
-        answer = self.fill_columns(*(s.address for s in state), data_lent.address, len(data), last, *pairs, given.address)
+        answer = self.fill_columns(*(s.address for s in state), PLAIN, data_lent.address, len(data), last, *pairs, given.address)
         if data_lent.array[len(data_lent.front):len(data_lent.front) + len(data)].tobytes() != data:
             raise Fault('bytes', 'nothing written', 'a write')
         data_lent.values('bytes')

@@ -16,7 +16,9 @@ use Rattle.error.specs.Number.{stopOf}
 use Rattle.error.specs.declared.Stopped.{Stopped as Stop}
 use Rattle.streams.specs.declared.State.{State}
 use Rattle.chemstation.specs.Next.{rule}
-use Rattle.opening.specs.Opening.{startRule, startRead, OpensRun}
+use Rattle.opening.specs.Opening.{startRead}
+use Rattle.streams.specs.declared.Mode.{Mode}
+use Rattle.modes.specs.Modes.{startBy, OpensBy}
 use Rattle.opening.specs.declared.Opening.{Opening}
 use Rattle.opening.specs.declared.OpenedRun.{OpenedRun}
 use Rattle.reader.specs.Columns.{Columns, equalLengths}
@@ -29,15 +31,15 @@ use Rattle.calls.specs.declared.AllCalls.the-variants.{Rows}
 use Rattle.calls.specs.declared.Asked.the-variants.{Records, Above}
 
 -- what Open's contract says of the rule of opening: the one place that cites it
-pub opened : (kind : ℕ) (F : List ℕ) (r : OpenedRun) → OpensRun kind false F r → (y : Opening) → r .answer ≡ y → read false (startRule kind) F ≡ startRead y
-opened kind F r o y e = sym (o .state) ∙ ap startRead e
+pub opened : (mode : Mode) (kind : ℕ) (F : List ℕ) (r : OpenedRun) → OpensBy mode kind false F r → (y : Opening) → r .answer ≡ y → read false (startBy mode kind) F ≡ startRead y
+opened mode kind F r o y e = sym (o .state) ∙ ap startRead e
 
 -- demand 3 of these calls on F, the bytes of a slice
-abbrev pub Demanded : ℕ → List Call → List ℕ → Type 0
-Demanded kind cs F = (G : List ℕ) → AreBytes G → 1 ≤ asked cs → Demand3 kind cs F G
+abbrev pub Demanded : Mode → ℕ → List Call → List ℕ → Type 0
+Demanded mode kind cs F = (G : List ℕ) → AreBytes G → 1 ≤ asked cs → Demand3 mode kind cs F G
 
-pub demanded : (kind : ℕ) (cs : List Call) (F : List ℕ) → Demand3Holds → ((i : ℕ) → getD F i 0 < 256) → Demanded kind cs F
-demanded kind cs F d f G g h = d kind cs F G (are-bytes F f) g h
+pub demanded : (mode : Mode) (kind : ℕ) (cs : List Call) (F : List ℕ) → Demand3Holds → ((i : ℕ) → getD F i 0 < 256) → Demanded mode kind cs F
+demanded mode kind cs F d f G g h = d mode kind cs F G (are-bytes F f) g h
 
 -- ---- N and the lent columns
 
@@ -61,18 +63,18 @@ accepted cs n old e = go (leb (asked cs) (length (old .time))) refl
     go true q t = record { equal = e; room = q; same = cc }
     go false q t = absurd (false≢true cc)
 
-module _ (kind : ℕ) (cs : List Call) (F : List ℕ) (n : ℕ) (old : Columns) (h : Accepted cs n old) where
+module _ (mode : Mode) (kind : ℕ) (cs : List Call) (F : List ℕ) (n : ℕ) (old : Columns) (h : Accepted cs n old) where
   pub has-room : Room n old × (n ≡ asked cs)
   has-room = ((even-if old (h .equal), omega (arith, h .same, leb-true (asked cs) (length (old .time)) (h .room))), h .same)
 
   -- ---- Open stops, or gives the state that the calls begin with
 
-  made-so : (r : AllCalls) (new : Columns) → Demanded kind cs F → ComesTo (byCalls rule (startRule kind) cs F) n r (record { entry = old; exit = new }) → Makes kind cs F r (record { entry = old; exit = new })
+  made-so : (r : AllCalls) (new : Columns) → Demanded mode kind cs F → ComesTo (byCalls rule (startBy mode kind) cs F) n r (record { entry = old; exit = new }) → Makes mode kind cs F r (record { entry = old; exit = new })
   made-so r new d m = record { answer = rw (h .equal, h .room, ← (h .same)) (m .answer); columns = rw (h .equal, h .room) (m .columns); demand = d }
 
-  pub no-state : (z : Stop) → Demanded kind cs F → read false (startRule kind) F ≡ stops (stopOf z) → Makes kind cs F (Rows n 0 (Stopped z)) (record { entry = old; exit = old })
+  pub no-state : (z : Stop) → Demanded mode kind cs F → read false (startBy mode kind) F ≡ stops (stopOf z) → Makes mode kind cs F (Rows n 0 (Stopped z)) (record { entry = old; exit = old })
   no-state z d q = made-so (Rows n 0 (Stopped z)) old d (rw q (record { answer = refl; columns = refl }))
 
-  pub from-state : (st : State) (k : ℕ) → Demanded kind cs F → read false (startRule kind) F ≡ got st k → (r : AllCalls) (new : Columns) →
-      ComesTo (called rule cs st (take (length F - k) (drop k F))) n r (record { entry = old; exit = new }) → Makes kind cs F r (record { entry = old; exit = new })
+  pub from-state : (st : State) (k : ℕ) → Demanded mode kind cs F → read false (startBy mode kind) F ≡ got st k → (r : AllCalls) (new : Columns) →
+      ComesTo (called rule cs st (take (length F - k) (drop k F))) n r (record { entry = old; exit = new }) → Makes mode kind cs F r (record { entry = old; exit = new })
   from-state st k d q r new m = made-so r new d (rw q (rw (take-all (length F - k) (drop k F) (omega (arith, length-drop k F))) at m))

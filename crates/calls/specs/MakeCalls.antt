@@ -11,7 +11,8 @@ use Rattle.common.specs.Bytes.{AreBytes}
 use Rattle.streams.specs.declared.State.{State}
 use Rattle.streams.specs.declared.Record.{Record}
 use Rattle.chemstation.specs.Next.{rule}
-use Rattle.opening.specs.Opening.{startRule}
+use Rattle.streams.specs.declared.Mode.{Mode}
+use Rattle.modes.specs.Modes.{startBy}
 use Rattle.reader.specs.Columns.{Columns, equalLengths, Even, filledWith, columnsWith, closingOf}
 use Rattle.reader.specs.declared.Filled.{Filled}
 use Rattle.demand3.specs.Demand3.{Demand3}
@@ -47,17 +48,17 @@ abbrev pub byRoom : {A : Type 0} → List Call → Columns → A → A → A →
 byRoom cs old differ below fit = cond (equalLengths old) (cond (leb (asked cs) (length (old .time))) fit below) differ
 
 -- the answer r and the lent columns c, by the calls cs on F, all told that their bytes are not the last
-pub record Makes (kind : ℕ) (cs : List Call) (F : List ℕ) (r : AllCalls) (c : Both Columns Columns) : Type 0 where
+pub record Makes (mode : Mode) (kind : ℕ) (cs : List Call) (F : List ℕ) (r : AllCalls) (c : Both Columns Columns) : Type 0 where
   -- N, the count of R's records, and Z
   pub answer :
-      let x = byCalls rule (startRule kind) cs F in
+      let x = byCalls rule (startBy mode kind) cs F in
       outcomeOf r ≡ byRoom cs (c .entry) unequal short (rows (asked cs) (length (x .records)) (x .closing))
   -- the rows of R's records, in the order given; every place behind them keeps what it held
   pub columns :
-      let x = byCalls rule (startRule kind) cs F in
+      let x = byCalls rule (startBy mode kind) cs F in
       c .exit ≡ byRoom cs (c .entry) (c .entry) (c .entry) (columnsWith (x .records) (c .entry))
   -- of this R and Z demand 3 holds, whatever bytes come behind F
-  pub demand : (G : List ℕ) → AreBytes G → 1 ≤ asked cs → Demand3 kind cs F G
+  pub demand : (G : List ℕ) → AreBytes G → 1 ≤ asked cs → Demand3 mode kind cs F G
 
 -- ---- what the other functions of the crate promise
 

@@ -3,6 +3,7 @@
 use opening::Opening;
 use reader::Closing;
 use reader::Filled;
+use streams::Mode;
 use streams::Next;
 use streams::State;
 ghost use mathlib.Core.Path.{_≡_};
@@ -227,9 +228,10 @@ fn calls_from(
     }
 }
 
-// Opens a file, told that its bytes are not the last, and makes the calls: N, the count of rows and Z, with the rows in the
+// Opens a file by a reading, told that its bytes are not the last, and makes the calls: N, the count of rows and Z, with the rows in the
 // lent columns.
 pub fn make_calls(
+    mode: Mode,
     kind: u8,
     file: &[u8],
     calls: &[usize],
@@ -240,7 +242,7 @@ pub fn make_calls(
     minutes: &mut [u32],
     leftover: &mut [u32],
 ) -> AllCalls
-    ensures { λ r. ⌜ Makes kind (callsOf (now (calls .entry))) (now (file .entry)) r (lentColumns time axis unscaled scaled minutes leftover) ⌝ }
+    ensures { λ r. ⌜ Makes mode kind (callsOf (now (calls .entry))) (now (file .entry)) r (lentColumns time axis unscaled scaled minutes leftover) ⌝ }
 {
     demand3::demand_three();
     if !reader::all_equal(
@@ -256,7 +258,7 @@ pub fn make_calls(
     let Asked::Records(n) = asked_by_all(calls, time.len()) else {
         return AllCalls::Short;
     };
-    let o = opening::open_run(kind, file, false);
+    let o = modes::open_by(mode, kind, file, false);
     let answer = o.answer;
     match answer {
         Opening::Stopped(z) => AllCalls::Rows {

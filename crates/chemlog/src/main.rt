@@ -2,5 +2,5 @@
 fn main() {
     let mut buf = [0u8; 32768];
     let mut out = [0u8; 32768];
-    logger::log_input(&mut buf, &mut out);
+    logger::log_input(streams::Mode::Plain, &mut buf, &mut out);
 }

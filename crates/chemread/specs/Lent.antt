@@ -15,13 +15,15 @@ use Rattle.fetch.specs.Fetch.{Outcome, wrote, refuse, fetched, heldAfter}
 use Rattle.texts.specs.Eight.{joined, Texts, textsAfter}
 use Rattle.metadata.specs.declared.ChemstationMetadata.{ChemstationMetadata}
 use Rattle.streams.specs.declared.State.{State}
+use Rattle.streams.specs.declared.Mode.{Mode}
+use Rattle.streams.specs.declared.Mode.the-variants.{Plain, Atlas}
 use Rattle.streams.specs.declared.Record.{Record}
-use Rattle.opening.specs.Opening.{begins}
+use Rattle.modes.specs.Modes.{beginsBy}
 use Rattle.reader.specs.Columns.{Columns, Lent, columnsWith, fillOf}
 use Rattle.states.specs.declared.Kept.{Kept}
 use Rattle.states.specs.declared.Kept.the-variants as kept
 use Rattle.streams.specs.Next.{storedOf}
-use Rattle.states.specs.State.{numbersOf, countsOf, stateOf}
+use Rattle.states.specs.State.{numbersOf, countsOf, stateBy}
 use Rattle.error.specs.Number.{closingNumber}
 use Rattle.sums.specs.declared.Total.{Total}
 use Rattle.sums.specs.declared.Total.the-variants.{Absent, Amount, Refused}
@@ -29,7 +31,7 @@ use Rattle.chemread.specs.Answers.{readNumber, outcomeNumber, totalNumbe
 
 -- ---- Open
 
--- memory for a header and a state
+-- memory for a header and a state with its reading
 pub record Run : Type 0 where
   pub header : List ℕ
   pub corrections : List Float
@@ -38,12 +40,18 @@ pub record Run : Type 0 where
   pub numbers : List Float
   pub counts : List ℕ
   pub stored : ℕ
+  pub reading : ℕ
 
-abbrev pub lentRun : Lent (List ℕ) → Lent (List Float) → Lent (List ℕ) → Lent (List ℕ) → Lent (List Float) → Lent (List ℕ) → Lent ℕ → Both Run Run
-lentRun h c s l x n t = record {
-  entry = record { header = now (h .entry); corrections = now (c .entry); «text_starts» = now (s .entry); «text_lengths» = now (l .entry); numbers = now (x .entry); counts = now (n .entry); stored = now (t .entry) };
-  exit = record { header = now (h .exit); corrections = now (c .exit); «text_starts» = now (s .exit); «text_lengths» = now (l .exit); numbers = now (x .exit); counts = now (n .exit); stored = now (t .exit) };
+abbrev pub lentRun : Lent (List ℕ) → Lent (List Float) → Lent (List ℕ) → Lent (List ℕ) → Lent (List Float) → Lent (List ℕ) → Lent ℕ → Lent ℕ → Both Run Run
+lentRun h c s l x n t r = record {
+  entry = record { header = now (h .entry); corrections = now (c .entry); «text_starts» = now (s .entry); «text_lengths» = now (l .entry); numbers = now (x .entry); counts = now (n .entry); stored = now (t .entry); reading = now (r .entry) };
+  exit = record { header = now (h .exit); corrections = now (c .exit); «text_starts» = now (s .exit); «text_lengths» = now (l .exit); numbers = now (x .exit); counts = now (n .exit); stored = now (t .exit); reading = now (r .exit) };
 }
+
+-- a reading as a number of the state
+abbrev pub readingNumber : Mode → ℕ
+readingNumber Plain = 0
+readingNumber Atlas = 1
 
 abbrev pub headerOf : ChemstationMetadata → List ℕ
 headerOf d = d .edition ∷ d .size ∷ d .sequence ∷ d .vial ∷ d .replicate ∷ []
@@ -51,8 +59,8 @@ headerOf d = d .edition ∷ d .size ∷ d .sequence ∷ d .vial ∷ d .replicate
 abbrev pub correctionsOf : ChemstationMetadata → List Float
 correctionsOf d = d .«start_time» ∷ d .«end_time» ∷ d .«offset_correction» ∷ d .«mult_correction» ∷ []
 
-abbrev pub openedAs : ChemstationMetadata → State → Run
-openedAs d st = record {
+abbrev pub openedAs : ℕ → ChemstationMetadata → State → Run
+openedAs reading d st = record {
   header = headerOf d;
   corrections = correctionsOf d;
   «text_starts» = d .«text_starts»;
@@ -60,19 +68,20 @@ openedAs d st = record {
   numbers = numbersOf st;
   counts = countsOf st;
   stored = storedOf st;
+  reading = reading;
 }
 
 -- a header that was opened, with the state before the first record; or nothing is written
-abbrev openedBy : ℕ → Read Header → Run → Run
-openedBy kind (got x n) old = openedAs (x .says) (begins kind x)
-openedBy kind (stops z) old = old
+abbrev openedBy : Mode → ℕ → Read Header → Run → Run
+openedBy mode kind (got x n) old = openedAs (readingNumber mode) (x .says) (beginsBy mode kind x)
+openedBy mode kind (stops z) old = old
 
--- the answer r and the lent memory m, by what the rule reads
-pub record OpensInto (kind : ℕ) (x : Read Header) (r : ℕ) (m : Both Run Run) : Type 0 where
+-- the answer r and the lent memory m, by what the rule of the reading reads
+pub record OpensInto (mode : Mode) (kind : ℕ) (x : Read Header) (r : ℕ) (m : Both Run Run) : Type 0 where
   pub answer : r ≡ readNumber x
-  pub memory : m .exit ≡ openedBy kind x (m .entry)
+  pub memory : m .exit ≡ openedBy mode kind x (m .entry)
   -- the numbers hold the state before the first record
-  pub state : (h : Header) (n : ℕ) → x ≡ got h n → stateOf (m .exit .numbers) (m .exit .counts) (m .exit .stored) ≡ kept.State (begins kind h)
+  pub state : (h : Header) (n : ℕ) → x ≡ got h n → stateBy (m .exit .reading) (m .exit .numbers) (m .exit .counts) (m .exit .stored) ≡ kept.State (beginsBy mode kind h)
 
 -- ---- Fetch a text
 
@@ -137,16 +146,16 @@ abbrev fillingNumber : Kept → List ℕ → Bool → Columns → ℕ
 fillingNumber (kept.State st) s last old = closingNumber (fillOf st s last old .closing)
 fillingNumber kept.NoKind s last old = 1
 
--- the state that the numbers hold
-abbrev keptIn : Filling → Kept
-keptIn f = stateOf (f .numbers) (f .counts) (f .stored)
+-- the state that the numbers hold under a reading
+abbrev keptIn : ℕ → Filling → Kept
+keptIn reading f = stateBy reading (f .numbers) (f .counts) (f .stored)
 
--- the answer r and the lent memory m, from the bytes s
-pub record FillsInto (s : List ℕ) (last : Bool) (r : ℕ) (m : Both Filling Filling) : Type 0 where
-  pub answer : r ≡ fillingNumber (keptIn (m .entry)) s last (m .entry .columns)
-  pub memory : m .exit ≡ fillingAfter (keptIn (m .entry)) s last (m .entry)
-  -- the numbers hold the state after the last record
-  pub state : (st : State) → keptIn (m .entry) ≡ kept.State st → keptIn (m .exit) ≡ kept.State (fillOf st s last (m .entry .columns) .state)
+-- the answer r and the lent memory m, from the reading and the bytes s
+pub record FillsInto (reading : ℕ) (s : List ℕ) (last : Bool) (r : ℕ) (m : Both Filling Filling) : Type 0 where
+  pub answer : r ≡ fillingNumber (keptIn reading (m .entry)) s last (m .entry .columns)
+  pub memory : m .exit ≡ fillingAfter (keptIn reading (m .entry)) s last (m .entry)
+  -- under the same reading the numbers hold the state after the last record
+  pub state : (st : State) → keptIn reading (m .entry) ≡ kept.State st → keptIn reading (m .exit) ≡ kept.State (fillOf st s last (m .entry .columns) .state)
 
 -- ---- the sum of a column
 

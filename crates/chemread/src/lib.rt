@@ -6,14 +6,15 @@ use metadata::ChemstationMetadata;
 use opening::Opening;
 use reader::Closing;
 use states::Kept;
+use streams::Mode;
 use sums::Total;
 ghost use mathlib.Core.Path.{_≡_};
 ghost use mathlib.Core.Bool.{true};
 ghost use Rattle.rules.specs.Rule.{read};
 ghost use Rattle.error.specs.Number.{stopOf, stopNumber, closingNumber};
-ghost use Rattle.metadata.specs.Metadata.{openRule};
 ghost use Rattle.fetch.specs.Fetch.{fetchRule, passed};
 ghost use Rattle.texts.specs.Eight.{eightRule, lentTexts, allPassed};
+ghost use Rattle.modes.specs.Modes.{openBy};
 ghost use Rattle.reader.specs.Columns.{lentColumns, closingOf};
 ghost use Rattle.chemread.specs.Lent.{headerOf, correctionsOf, lentRun, OpensInto, lentText, FetchesInto, TextsInto, lentFilling, FillsInto, SumsInto};
 ghost use Rattle.sums.specs.Sums.{totalFrom};
@@ -74,9 +75,9 @@ fn corrections_of(d: ChemstationMetadata) -> [f64; 4]
     ]
 }
 
-// Opens a run: what its header says, and the state before the first record. Any other answer writes nothing.
-#[no_mangle]
-pub extern "C" fn chemstation_open(
+// Opens a run by a reading: what its header says, and the state before the first record. Any other answer writes nothing.
+fn open_into(
+    mode: Mode,
     kind: u8,
     s: &[u8],
     last: bool,
@@ -87,10 +88,11 @@ pub extern "C" fn chemstation_open(
     numbers: &mut [f64; 6],
     counts: &mut [usize; 4],
     stored_time: &mut u32,
+    reading: &mut u8,
 ) -> u8
-    ensures { λ r. ⌜ OpensInto kind (read last (openRule kind) (now (s .entry))) r (lentRun header corrections «text_starts» «text_lengths» numbers counts «stored_time») ⌝ }
+    ensures { λ r. ⌜ OpensInto mode kind (read last (openBy mode kind) (now (s .entry))) r (lentRun header corrections «text_starts» «text_lengths» numbers counts «stored_time» reading) ⌝ }
 {
-    let o = opening::open_run(kind, s, last);
+    let o = modes::open_by(mode, kind, s, last);
     let d = o.metadata;
     let answer = o.answer;
     match answer {
@@ -105,9 +107,76 @@ pub extern "C" fn chemstation_open(
             *numbers = states::numbers_of(st);
             *counts = states::counts_of(st);
             *stored_time = states::stored_of(st);
+            *reading = states::reading_of(st);
             GIVEN
         }
     }
+}
+
+// Opens a run of any kind, to be read as the original reads it.
+#[no_mangle]
+pub extern "C" fn chemstation_open(
+    kind: u8,
+    s: &[u8],
+    last: bool,
+    header: &mut [usize; 5],
+    corrections: &mut [f64; 4],
+    text_starts: &mut [usize; 8],
+    text_lengths: &mut [usize; 8],
+    numbers: &mut [f64; 6],
+    counts: &mut [usize; 4],
+    stored_time: &mut u32,
+    reading: &mut u8,
+) -> u8
+    ensures { λ r. ⌜ OpensInto Mode.Plain kind (read last (openBy Mode.Plain kind) (now (s .entry))) r (lentRun header corrections «text_starts» «text_lengths» numbers counts «stored_time» reading) ⌝ }
+{
+    open_into(
+        Mode::Plain,
+        kind,
+        s,
+        last,
+        header,
+        corrections,
+        text_starts,
+        text_lengths,
+        numbers,
+        counts,
+        stored_time,
+        reading,
+    )
+}
+
+// Opens a DAD or UV run for the atlas reading.
+#[no_mangle]
+pub extern "C" fn chemstation_open_atlas(
+    kind: u8,
+    s: &[u8],
+    last: bool,
+    header: &mut [usize; 5],
+    corrections: &mut [f64; 4],
+    text_starts: &mut [usize; 8],
+    text_lengths: &mut [usize; 8],
+    numbers: &mut [f64; 6],
+    counts: &mut [usize; 4],
+    stored_time: &mut u32,
+    reading: &mut u8,
+) -> u8
+    ensures { λ r. ⌜ OpensInto Mode.Atlas kind (read last (openBy Mode.Atlas kind) (now (s .entry))) r (lentRun header corrections «text_starts» «text_lengths» numbers counts «stored_time» reading) ⌝ }
+{
+    open_into(
+        Mode::Atlas,
+        kind,
+        s,
+        last,
+        header,
+        corrections,
+        text_starts,
+        text_lengths,
+        numbers,
+        counts,
+        stored_time,
+        reading,
+    )
 }
 
 // ---- Fetch a text
@@ -163,12 +232,14 @@ pub extern "C" fn chemstation_texts(
 
 // ---- Fill columns
 
-// Records until the columns are full or another answer comes; the state behind the last is stored back. Numbers that hold no state are refused.
+// Records until the columns are full or another answer comes; the state behind the last is stored back, its reading stays. Numbers that
+// hold no state are refused.
 #[no_mangle]
 pub extern "C" fn chemstation_fill(
     numbers: &mut [f64; 6],
     counts: &mut [usize; 4],
     stored_time: &mut u32,
+    reading: u8,
     s: &[u8],
     last: bool,
     time: &mut [f64],
@@ -179,12 +250,12 @@ pub extern "C" fn chemstation_fill(
     leftover: &mut [u32],
     given: &mut [usize; 2],
 ) -> u8
-    ensures { λ r. ⌜ FillsInto (now (s .entry)) last r (lentFilling numbers counts «stored_time» (lentColumns time axis unscaled scaled minutes leftover) given) ⌝ }
+    ensures { λ r. ⌜ FillsInto reading (now (s .entry)) last r (lentFilling numbers counts «stored_time» (lentColumns time axis unscaled scaled minutes leftover) given) ⌝ }
 {
     let x = *numbers;
     let n = *counts;
     let stored = *stored_time;
-    match states::state_of(x, n, stored) {
+    match states::state_by(reading, x, n, stored) {
         Kept::NoKind => {
             *given = [0, 0];
             error::number_of(Refusal::UnknownKind)

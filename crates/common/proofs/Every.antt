@@ -111,6 +111,14 @@ leads-map f (field may w k) bs h = to-field λ _. leads-map f (k (take w bs)) (d
 leads-map f (refuses c) bs h = to-refuses
 leads-map f ends bs h = to-ends
 
+-- what is read of another rule, and what is made of it
+pub leads-made : {A B : Type 0} {Q : A → Type 0} {P : B → Type 0} (f : A → B) {r : Rule A} {bs : List ℕ} → Leads Q r bs → ((a : A) → Q a → P (f a)) → Leads P (mapRule f r) bs
+unfolding _>>=_
+leads-made f (to-gives {a = a} q) h = to-gives (h a q)
+leads-made f (to-field e) h = to-field λ l. leads-made f (e l) h
+leads-made f to-refuses h = to-refuses
+leads-made f to-ends h = to-ends
+
 pub leads-may-end : {A : Type 0} {P : A → Type 0} {r : Rule A} {bs : List ℕ} → Leads P r bs → Leads P (mayEnd r) bs
 leads-may-end (to-gives p) = to-gives p
 leads-may-end (to-field h) = to-field h

@@ -23,20 +23,28 @@ use Rattle.dad.specs.Dad.{dadPoint, dadScan}
 use Rattle.uv.specs.Uv.{uvPoint, uvScan}
 use Rattle.opening.specs.Opening.{sameBytes, begins}
 use Rattle.opening.proofs.Marks.{same-is}
-use Rattle.demand3.specs.Specimens.{Reply, sized, refusal, gave, Specimen, answered, specimens, AllGive}
+use Rattle.demand3.specs.Specimens.{Reply, sized, refusal, gave, left, Specimen, answered, specimens, atlasSpecimens, AllGive}
 
 abbrev sameReply : Reply → Reply → Bool
-sameReply (sized m) = elim [ sized n ↦ eqb m n | refusal n ↦ false | gave r n ↦ false ]
-sameReply (refusal m) = elim [ sized n ↦ false | refusal n ↦ eqb m n | gave r n ↦ false ]
-sameReply (gave l m) = elim [ sized n ↦ false | refusal n ↦ false | gave r n ↦ sameBytes l r && eqb m n ]
+sameReply (sized m) = elim [ sized n ↦ eqb m n | refusal n ↦ false | gave r n ↦ false | left n y ↦ false ]
+sameReply (refusal m) = elim [ sized n ↦ false | refusal n ↦ eqb m n | gave r n ↦ false | left n y ↦ false ]
+sameReply (gave l m) = elim [ sized n ↦ false | refusal n ↦ false | gave r n ↦ sameBytes l r && eqb m n | left n y ↦ false ]
+sameReply (left m x) = elim [ sized n ↦ false | refusal n ↦ false | gave r n ↦ false | left n y ↦ eqb m n && sameReply x y ]
 
 reply-is : (x y : Reply) → T (sameReply x y) → x ≡ y
-reply-is (sized m) = elim [ sized n ↦ λ t. ap sized (eqb→eq m n t) | refusal n ↦ λ t. absurd t | gave r n ↦ λ t. absurd t ]
-reply-is (refusal m) = elim [ sized n ↦ λ t. absurd t | refusal n ↦ λ t. ap refusal (eqb→eq m n t) | gave r n ↦ λ t. absurd t ]
+reply-is (sized m) = elim [ sized n ↦ λ t. ap sized (eqb→eq m n t) | refusal n ↦ λ t. absurd t | gave r n ↦ λ t. absurd t | left n y ↦ λ t. absurd t ]
+reply-is (refusal m) = elim [ sized n ↦ λ t. absurd t | refusal n ↦ λ t. ap refusal (eqb→eq m n t) | gave r n ↦ λ t. absurd t | left n y ↦ λ t. absurd t ]
 reply-is (gave l m) = elim [
   | sized n ↦ λ t. absurd t
   | refusal n ↦ λ t. absurd t
   | gave r n ↦ λ t. let p = and-yes (sameBytes l r) (eqb m n) t in ap₂ gave (same-is l r (p .0)) (eqb→eq m n (p .1))
+  | left n y ↦ λ t. absurd t
+]
+reply-is (left m x) = elim [
+  | sized n ↦ λ t. absurd t
+  | refusal n ↦ λ t. absurd t
+  | gave r n ↦ λ t. absurd t
+  | left n y ↦ λ t. let p = and-yes (eqb m n) (sameReply x y) t in ap₂ left (eqb→eq m n (p .0)) (reply-is x y (p .1))
 ]
 
 abbrev test : List Specimen → Bool
@@ -50,6 +58,13 @@ all-give (s ∷ ss) t = let p = and-yes (sameReply (answered (s .does)) (s .answ
 computed : T (test specimens)
 unfolding specimens read _>>=_ readUpTo headerRule metadataRule textsRule openRule describedBy textRule pascal trimmedOf decode minima texts begins delta fidRule msPoint msScans mwdPoint mwdRule dadPoint dadScan uvPoint uvScan scanning add mul div sub ofInt ofBits toBits
 computed = tt
+
+atlas-computed : T (test atlasSpecimens)
+unfolding atlasSpecimens read _>>=_ readUpTo headerRule metadataRule textsRule openRule describedBy textRule pascal trimmedOf decode minima texts begins delta dadPoint dadScan uvPoint uvScan scanning add mul div sub ofInt ofBits toBits
+atlas-computed = tt
+
+pub they-give-too : AllGive atlasSpecimens
+they-give-too = all-give atlasSpecimens atlas-computed
 
 pub they-give : AllGive specimens
 they-give = all-give specimens computed

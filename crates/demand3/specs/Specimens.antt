@@ -2,11 +2,11 @@
 use mathlib.Core.Path.{_≡_}
 use mathlib.Core.Bool.{true, cond}
 use mathlib.Core.List.{List, [], _∷_, _++_, map}
-use Prim.Native.Nat.{ℕ, _/_, _%_}
+use Prim.Native.Nat.{ℕ, _-_, _/_, _%_}
 use lib.IntN.{ℤ, pos, negsuc}
 use lib.Ieee.{binary64, ofInt, toBits}
 use lib.Dec.{eqb}
-use lib.ListN.{replicate, drop}
+use lib.ListN.{length, replicate, drop}
 use Rattle.rules.specs.Rule.{Read, got, stops, read}
 use Rattle.rules.specs.Calls.{Reading, readUpTo}
 use Rattle.error.specs.Number.{stopNumber, closingNumber}
@@ -16,15 +16,19 @@ use Rattle.streams.specs.declared.State.{State}
 use Rattle.streams.specs.declared.Record.{Record}
 use Rattle.streams.specs.Next.{unscaledOf}
 use Rattle.opening.specs.Opening.{startRule}
+use Rattle.modes.specs.Modes.{startBy}
+use Rattle.streams.specs.declared.Mode.the-variants.{Atlas}
 
 pub data Operation : Type 0 where
   sizes : ℕ → ℕ → Operation  -- Size the header: a kind and a size word
   streams : ℕ → ℕ → List ℕ → Operation  -- Open, then the records, told last: a kind, the scans due and the bytes behind the header
+  atlas : ℕ → ℕ → List ℕ → Operation  -- the same under the atlas reading
 
 pub data Reply : Type 0 where
   sized : ℕ → Reply  -- a header's size, in bytes
   refusal : ℕ → Reply  -- of a header, by its number
   gave : List ℕ → ℕ → Reply  -- the bits of the unscaled intensities, and the closing answer by its number
+  left : ℕ → Reply → Reply  -- the same, and how many bytes stand unread behind the last record
 
 -- ---- the files
 
@@ -60,9 +64,17 @@ abbrev running : List ℕ → Read State → Reply
 running F (got st n) = giving (readUpTo rule true 16 st (drop n F))
 running F (stops z) = refusal (stopNumber z)
 
+abbrev leaving : List ℕ → Reading State Record → Reply
+leaving bs g = left (length bs - g .consumed) (giving g)
+
+abbrev runningOn : List ℕ → Read State → Reply
+runningOn F (got st n) = leaving (drop n F) (readUpTo rule true 16 st (drop n F))
+runningOn F (stops z) = refusal (stopNumber z)
+
 abbrev pub answered : Operation → Reply
 answered (sizes kind size) = sizing (read true (sizeRule kind) (sizeFile size))
 answered (streams kind scans bs) = let F = streamFile kind scans bs in running F (read true (startRule kind) F)
+answered (atlas kind scans bs) = let F = streamFile kind scans bs in runningOn F (read true (startBy Atlas kind) F)
 
 -- ---- the list
 
@@ -107,6 +119,30 @@ specimens =
     ∷ (streams 4 1 dadDeltas gives values (pos 10 ∷ []) 0)
     -- UV 4000, 4040, 20: 3 points
     ∷ (streams 5 1 (zeros 8 ++ (160 ∷ 15 ∷ 200 ∷ 15 ∷ 20 ∷ 0 ∷ (zeros 8 ++ (1 ∷ 0 ∷ 1 ∷ 0 ∷ 1 ∷ 0 ∷ 1 ∷ 0 ∷ [])))) gives values (pos 1 ∷ pos 2 ∷ pos 3 ∷ []) 0)
+    ∷ []
+
+-- a UV scan of one wavelength, and its point
+abbrev uvPoint : ℕ → List ℕ
+uvPoint delta = zeros 8 ++ (160 ∷ 15 ∷ 160 ∷ 15 ∷ 1 ∷ 0 ∷ (zeros 8 ++ (delta ∷ 0 ∷ [])))
+
+-- request 5's: 'a DAD run ends after one point of its last scan, and .. UV runs of one wavelength never run out of scans'; and the kinds
+unfoldable pub atlasSpecimens : List Specimen
+atlasSpecimens =
+    -- DAD, one scan due: its last point too; and nothing is asked for behind it
+    (atlas 4 1 dadDeltas gives left 0 (values (pos 10 ∷ pos 0 ∷ []) 0))
+    ∷ (atlas 4 2 dadDeltas gives left 0 (values (pos 10 ∷ pos 0 ∷ []) 14))
+    ∷ (atlas 4 1 (dadDeltas ++ dadDeltas) gives left 26 (values (pos 10 ∷ pos 0 ∷ []) 0))
+    -- the value is cleared at a scan
+    ∷ (atlas 4 2 (dadDeltas ++ dadDeltas) gives left 0 (values (pos 10 ∷ pos 0 ∷ pos 10 ∷ pos 0 ∷ []) 0))
+    -- UV of one wavelength, two scans due: the third is unread
+    ∷ (atlas 5 2 (uvPoint 7 ++ (uvPoint 8 ++ uvPoint 9)) gives left 24 (values (pos 7 ∷ pos 8 ∷ []) 0))
+    -- the kinds: 1 before 18, both before any byte
+    ∷ (atlas 1 0 [] gives refusal 18)
+    ∷ (atlas 2 0 [] gives refusal 18)
+    ∷ (atlas 3 0 [] gives refusal 18)
+    ∷ (atlas 6 0 [] gives refusal 18)
+    ∷ (atlas 0 0 [] gives refusal 1)
+    ∷ (atlas 7 0 [] gives refusal 1)
     ∷ []
 
 abbrev pub AllGive : List Specimen → Type 0

@@ -4,7 +4,7 @@ use Rattle.rules.specs.Rule.{Stop, refused, finished, moreBytes}
 use Rattle.rules.specs.Calls.{Answer, full, stopped}
 use Rattle.error.specs.declared.Refusal.{Refusal}
 use Rattle.error.specs.declared.Refusal.the-variants.{UnknownKind, SizeWordZero, HeaderTooSmall, HeaderTooLarge, UnknownEdition, BelowEditionMinimum, TextTooLong, NotUtf8}
-use Rattle.error.specs.declared.Refusal.the-variants.{ArrayHeaderTooSmall, TooManyScans, MsCountTooSmall, UvStartAboveEnd, UvStepZero, Incomplete, LentLength, UnknownText, SumOutOfRange}
+use Rattle.error.specs.declared.Refusal.the-variants.{ArrayHeaderTooSmall, TooManyScans, MsCountTooSmall, UvStartAboveEnd, UvStepZero, Incomplete, LentLength, UnknownText, SumOutOfRange, KindWithoutAtlas}
 use Rattle.error.specs.declared.Stopped.{Stopped}
 use Rattle.error.specs.declared.Stopped.the-variants.{Refused, Finished, MoreBytes}
 
@@ -27,6 +27,8 @@ numberOf LentLength = 15
 numberOf UnknownText = 16
 -- request 1: 'Answers: 17'
 numberOf SumOutOfRange = 17
+-- request 5: 'Answers: 18'
+numberOf KindWithoutAtlas = 18
 
 abbrev pub stopOf : Stopped → Stop
 stopOf (Refused r) = refused (numberOf r)

@@ -26,6 +26,8 @@ pub enum Refusal {
     UnknownText,
     // a value that is no whole number below 2^53 in size, or a sum on the way outside 64 bits
     SumOutOfRange,
+    // an atlas reading of a kind other than DAD and UV
+    KindWithoutAtlas,
 }
 
 // The answers without an outcome.
@@ -35,7 +37,7 @@ pub enum Stopped {
     MoreBytes,
 }
 
-// The number of a refusal: document 01's, 17 the request's of a sum.
+// The number of a refusal: document 01's, those from 17 on the requests'.
 pub fn number_of(r: Refusal) -> u8
     ensures { λ n. ⌜ n ≡ numberOf r ⌝ }
 {
@@ -57,6 +59,7 @@ pub fn number_of(r: Refusal) -> u8
         Refusal::LentLength => 15,
         Refusal::UnknownText => 16,
         Refusal::SumOutOfRange => 17,
+        Refusal::KindWithoutAtlas => 18,
     }
 }
 

@@ -19,12 +19,12 @@ use Rattle.rules.proofs.Laws.{got≢stops, waiting?, waits-iff, Keeps, keeps, r
 use Rattle.rules.proofs.Last.{told-last}
 use Rattle.common.specs.Bytes.{AreBytes}
 use Rattle.floats.specs.Wholes.{IsWhole}
-use Rattle.metadata.specs.Metadata.{Header, openRule}
 use Rattle.chemstation.specs.Next.{rule}
 use Rattle.streams.specs.Next.{unscaledOf}
 use Rattle.streams.specs.declared.State.{State}
 use Rattle.streams.specs.declared.Record.{Record}
-use Rattle.opening.specs.Opening.{begins, startRule}
+use Rattle.streams.specs.declared.Mode.{Mode}
+use Rattle.modes.specs.Modes.{openBy, beginsBy, startBy}
 use Rattle.whole.specs.Whole.{Added, wholeRule, atOpen, Exact, AllExact}
 use Rattle.demand3.specs.Demand3.{wholeStart, Demand3Holds}
 use Rattle.sums.specs.Sums.{counts, wholeOf, in64, amount, outOfRange, plus, totalFrom, TotalsAreSums}
@@ -67,28 +67,28 @@ all-straight (no-more e) = refl
 
 -- ---- demand 3, of the records of a log
 
-module _ (demand : Demand3Holds) {size kind : ℕ} {F : List ℕ} (b : AreBytes F) (l : OpenedLog size kind F) where
-  opened : read false (startRule kind) F ≡ got (begins kind (l .header)) (l .taken)
-  opened = read-map false (begins kind) (openRule kind) F ∙ ap (mapRead (begins kind)) (straight size (openRule kind) F (l .opens))
+module _ (demand : Demand3Holds) {mode : Mode} {size kind : ℕ} {F : List ℕ} (b : AreBytes F) (l : OpenedLog mode size kind F) where
+  opened : read false (startBy mode kind) F ≡ got (beginsBy mode kind (l .header)) (l .taken)
+  opened = read-map false (beginsBy mode kind) (openBy mode kind) F ∙ ap (mapRead (beginsBy mode kind)) (straight size (openBy mode kind) F (l .opens))
 
-  by-rules : (byRules rule (startRule kind) (length (l .records)) F) .records ≡ l .records
+  by-rules : (byRules rule (startBy mode kind) (length (l .records)) F) .records ≡ l .records
   by-rules = rw opened (all-straight (l .reads))
 
-  some : (n : ℕ) → 1 ≤ n → AllExact ((byRules rule (startRule kind) n F) .records) (addedUp kind n F)
+  some : (n : ℕ) → 1 ≤ n → AllExact ((byRules rule (startBy mode kind) n F) .records) (addedUp mode kind n F)
   unfolding asked AreBytes
   some n h =
-      let d = demand kind (fill n ∷ []) F [] b tt (omega arith) in
+      let d = demand mode kind (fill n ∷ []) F [] b tt (omega arith) in
       let e : n + 0 ≡ n = add-zero n in
-      subst (λ m. AllExact ((byRules rule (startRule kind) m F) .records) (addedUp kind m F)) e
-      (subst (λ r. AllExact (r .records) (addedUp kind (n + 0) F)) (d .calls .by-rules) (d .exact))
+      subst (λ m. AllExact ((byRules rule (startBy mode kind) m F) .records) (addedUp mode kind m F)) e
+      (subst (λ r. AllExact (r .records) (addedUp mode kind (n + 0) F)) (d .calls .by-rules) (d .exact))
 
-  none : AllExact ((byRules rule (startRule kind) 0 F) .records) (addedUp kind 0 F)
+  none : AllExact ((byRules rule (startBy mode kind) 0 F) .records) (addedUp mode kind 0 F)
   unfolding readUpTo
   none =
-      let e : addedUp kind 0 F ≡ [] = ap (λ x. (opening F (λ st bs. resultOf (readUpTo wholeRule false 0 st bs)) x) .records) (read-map false atOpen (startRule kind) F ∙ ap (mapRead atOpen) opened) in
-      subst (AllExact ((byRules rule (startRule kind) 0 F) .records)) (sym e) (rw opened tt)
+      let e : addedUp mode kind 0 F ≡ [] = ap (λ x. (opening F (λ st bs. resultOf (readUpTo wholeRule false 0 st bs)) x) .records) (read-map false atOpen (startBy mode kind) F ∙ ap (mapRead atOpen) opened) in
+      subst (AllExact ((byRules rule (startBy mode kind) 0 F) .records)) (sym e) (rw opened tt)
 
-  every : (n : ℕ) → AllExact ((byRules rule (startRule kind) n F) .records) (addedUp kind n F)
+  every : (n : ℕ) → AllExact ((byRules rule (startBy mode kind) n F) .records) (addedUp mode kind n F)
   every zero = none
   every (suc n) = some (suc n) (omega arith)
 
@@ -121,15 +121,15 @@ all-added s t (r ∷ rs) (w ∷ ws) e h = ap (λ x. totalFrom x (unscaled rs)) (
 first-total : (kind : ℕ) → ¬ (kind ≡ 6) → firstTotal kind ≡ Amount (pos 0)
 first-total kind d = rw (ne-eqb kind 6 d) refl
 
-pub sum : TotalsAreSums → Demand3Holds → (size kind : ℕ) (F : List ℕ) → AreBytes F → ¬ (kind ≡ 6) → (l : OpenedLog size kind F) → AllWithin (valuesOf l) →
+pub sum : TotalsAreSums → Demand3Holds → (mode : Mode) (size kind : ℕ) (F : List ℕ) → AreBytes F → ¬ (kind ≡ 6) → (l : OpenedLog mode size kind F) → AllWithin (valuesOf l) →
     totalFrom (firstTotal kind) (unscaled (l .records)) ≡ totalAdded (Amount (pos 0)) (valuesOf l)
-sum s demand size kind F b d l h =
+sum s demand mode size kind F b d l h =
     ap (λ t. totalFrom t (unscaled (l .records))) (first-total kind d) ∙ all-added s (Amount (pos 0)) (l .records) (valuesOf l) (exact demand b l) h
 
-pub foot : TotalsAreSums → Demand3Holds → (size kind : ℕ) (F : List ℕ) → AreBytes F → ¬ (kind ≡ 6) → (l : OpenedLog size kind F) → AllWithin (valuesOf l) → LogOf size kind F (l .answer) (textAdded l)
-foot s demand size kind F b d l h =
-    let e = sum s demand size kind F b d l h in
-    subst (λ t. LogOf size kind F (l .answer) (headerText (l .header) ++ (linesOf (l .records) ++ (totalLine t ++ endLine (l .answer) (length (l .records)))))) e (opened-run (l .opens) (l .reads))
+pub foot : TotalsAreSums → Demand3Holds → (mode : Mode) (size kind : ℕ) (F : List ℕ) → AreBytes F → ¬ (kind ≡ 6) → (l : OpenedLog mode size kind F) → AllWithin (valuesOf l) → LogOf mode size kind F (l .answer) (textAdded l)
+foot s demand mode size kind F b d l h =
+    let e = sum s demand mode size kind F b d l h in
+    subst (λ t. LogOf mode size kind F (l .answer) (headerText (l .header) ++ (linesOf (l .records) ++ (totalLine t ++ endLine (l .answer) (length (l .records)))))) e (opened-run (l .opens) (l .reads))
 
 -- ---- kind 6
 
@@ -137,9 +137,9 @@ absent-stays : (vs : List Float) → totalFrom Absent vs ≡ Absent
 absent-stays [] = refl
 absent-stays (v ∷ vs) = absent-stays vs
 
-pub array : (size : ℕ) (F : List ℕ) (l : OpenedLog size 6 F) → LogOf size 6 F (l .answer) (headerText (l .header) ++ (linesOf (l .records) ++ endLine (l .answer) (length (l .records))))
-array size F l =
-    subst (λ t. LogOf size 6 F (l .answer) (headerText (l .header) ++ (linesOf (l .records) ++ (totalLine t ++ endLine (l .answer) (length (l .records))))))
+pub array : (mode : Mode) (size : ℕ) (F : List ℕ) (l : OpenedLog mode size 6 F) → LogOf mode size 6 F (l .answer) (headerText (l .header) ++ (linesOf (l .records) ++ endLine (l .answer) (length (l .records))))
+array mode size F l =
+    subst (λ t. LogOf mode size 6 F (l .answer) (headerText (l .header) ++ (linesOf (l .records) ++ (totalLine t ++ endLine (l .answer) (length (l .records))))))
     (absent-stays (unscaled (l .records))) (opened-run (l .opens) (l .reads))
 
 -- ---- an amount is the sum

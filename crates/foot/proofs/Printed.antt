@@ -14,6 +14,7 @@ use Rattle.pascal.specs.Texts.{pascal, textRule}
 use Rattle.metadata.specs.Metadata.{textsRule, describedBy, metadataRule, openRule}
 use Rattle.layouts.specs.Table.{minima, texts, clocks, offsets, multipliers}
 use Rattle.fid.specs.Fid.{fidRule}
+use Rattle.streams.specs.declared.Mode.the-variants.{Plain}
 use Rattle.opening.specs.Opening.{sameBytes, begins}
 use Rattle.opening.proofs.Marks.{same-is}
 use Rattle.digits.specs.Numbers.{decimal}
@@ -23,10 +24,10 @@ use Rattle.log.specs.Runs.{linesOf}
 use Rattle.log.specs.Log.{LogOf, opened-run, one-more, no-more}
 use Rattle.foot.specs.Foot.{AllWithin, addedUp, printedRun, printedLog, someTotals, someLines}
 
-printed-as : {t : List ℕ} → LogOf 32768 1 printedRun finished t → T (sameBytes t printedLog) → LogOf 32768 1 printedRun finished printedLog
-printed-as {t} l s = subst (LogOf 32768 1 printedRun finished) (same-is t printedLog s) l
+printed-as : {t : List ℕ} → LogOf Plain 32768 1 printedRun finished t → T (sameBytes t printedLog) → LogOf Plain 32768 1 printedRun finished printedLog
+printed-as {t} l s = subst (LogOf Plain 32768 1 printedRun finished) (same-is t printedLog s) l
 
-pub printed : LogOf 32768 1 printedRun finished printedLog
+pub printed : LogOf Plain 32768 1 printedRun finished printedLog
 unfolding printedRun printedLog read _>>=_ headerRule metadataRule textsRule openRule describedBy textRule pascal trimmedOf decode minima texts clocks offsets multipliers begins fidRule add mul div sub ofInt ofBits toBits isNan toSigned linesOf recordLine bitsText answerText decimal
 printed = printed-as (opened-run refl (one-more refl (one-more refl (no-more refl)))) tt
 
@@ -34,6 +35,6 @@ pub lines : map totalLine someTotals ≡ map ascii someLines
 unfolding decimal
 lines = refl
 
-pub within : AllWithin (addedUp 1 2 printedRun)
+pub within : AllWithin (addedUp Plain 1 2 printedRun)
 unfolding printedRun read _>>=_ readUpTo headerRule metadataRule textsRule openRule describedBy textRule pascal trimmedOf decode minima texts begins fidRule add mul div sub ofInt ofBits toBits
 within = (omega arith, (omega arith, tt))

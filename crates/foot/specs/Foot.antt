@@ -10,9 +10,11 @@ use lib.ListN.{length, drop, replicate}
 use Rattle.rules.specs.Rule.{Stop, finished, got, stops}
 use Rattle.rules.specs.Calls.{byRules}
 use Rattle.common.specs.Bytes.{AreBytes}
-use Rattle.metadata.specs.Metadata.{Header, openRule}
+use Rattle.metadata.specs.Metadata.{Header}
 use Rattle.streams.specs.declared.Record.{Record}
-use Rattle.opening.specs.Opening.{begins}
+use Rattle.streams.specs.declared.Mode.{Mode}
+use Rattle.streams.specs.declared.Mode.the-variants.{Plain}
+use Rattle.modes.specs.Modes.{openBy, beginsBy}
 use Rattle.whole.specs.Whole.{Added, wholeRule, Within, AllExact}
 use Rattle.demand3.specs.Demand3.{wholeStart}
 use Rattle.sums.specs.Sums.{outOfRange, amount, totalFrom}
@@ -25,9 +27,9 @@ use Rattle.log.specs.Log.{inBuffer, Reads, headerText, firstTotal, LogOf}
 
 -- ---- the added-up values
 
--- demand 3's, of the first n records of a file
-abbrev pub addedUp : ℕ → ℕ → List ℕ → List Added
-addedUp kind n F = (byRules wholeRule (wholeStart kind) n F) .records
+-- demand 3's, of the first n records of a file, by a reading
+abbrev pub addedUp : Mode → ℕ → ℕ → List ℕ → List Added
+addedUp mode kind n F = (byRules wholeRule (wholeStart mode kind) n F) .records
 
 -- each where demand 3 claims that it is the record's double
 abbrev pub AllWithin : List Added → Type 0
@@ -51,20 +53,20 @@ sumAdded a ws = foldl (λ z w. z +ℤ w .value) a ws
 -- ---- the theorem
 
 -- what a log is made of where the opening gives a header (`opened-run`)
-pub record OpenedLog (size kind : ℕ) (F : List ℕ) : Type 0 where
+pub record OpenedLog (mode : Mode) (size kind : ℕ) (F : List ℕ) : Type 0 where
   pub header : Header
   pub taken : ℕ
   pub records : List Record
   pub answer : Stop
-  pub opens : inBuffer size (openRule kind) F ≡ got header taken
-  pub reads : Reads size (begins kind header) (drop taken F) records answer
+  pub opens : inBuffer size (openBy mode kind) F ≡ got header taken
+  pub reads : Reads size (beginsBy mode kind header) (drop taken F) records answer
 
 -- the added-up values of its records
-abbrev pub valuesOf : {size kind : ℕ} {F : List ℕ} → OpenedLog size kind F → List Added
-valuesOf {size} {kind} {F} l = addedUp kind (length (l .records)) F
+abbrev pub valuesOf : {mode : Mode} {size kind : ℕ} {F : List ℕ} → OpenedLog mode size kind F → List Added
+valuesOf {mode} {size} {kind} {F} l = addedUp mode kind (length (l .records)) F
 
 -- its text, with what those values add up to
-abbrev pub textAdded : {size kind : ℕ} {F : List ℕ} → OpenedLog size kind F → List ℕ
+abbrev pub textAdded : {mode : Mode} {size kind : ℕ} {F : List ℕ} → OpenedLog mode size kind F → List ℕ
 textAdded l = headerText (l .header) ++ (linesOf (l .records) ++ (totalLine (totalAdded (Amount (pos 0)) (valuesOf l)) ++ endLine (l .answer) (length (l .records))))
 
 -- document 01's printed run: '512 zero bytes but for byte 251 = 2 and 267 = 2, then 00 05 00 02', and its log with request 1's `t 17`
@@ -81,22 +83,23 @@ someTotals = Amount (pos 0) ∷ Amount (negsuc 16) ∷ Amount (pos (2 ^ 63 - 1))
 abbrev pub someLines : List String
 someLines = "t 0\n" ∷ "t -17\n" ∷ "t 9223372036854775807\n" ∷ "t -9223372036854775808\n" ∷ "t -\n" ∷ "" ∷ []
 
+-- by either reading
 pub record FootOfLog : Type 0 where
   -- the records of a log are demand 3's: each unscaled intensity is its added-up value, as far as that is claimed
-  pub exact : (size kind : ℕ) (F : List ℕ) → AreBytes F → (l : OpenedLog size kind F) → AllExact (l .records) (valuesOf l)
+  pub exact : (mode : Mode) (size kind : ℕ) (F : List ℕ) → AreBytes F → (l : OpenedLog mode size kind F) → AllExact (l .records) (valuesOf l)
   -- where it is claimed of all of them, what they add up to is what the added-up values do
-  pub sum : (size kind : ℕ) (F : List ℕ) → AreBytes F → ¬ (kind ≡ 6) → (l : OpenedLog size kind F) → AllWithin (valuesOf l) →
+  pub sum : (mode : Mode) (size kind : ℕ) (F : List ℕ) → AreBytes F → ¬ (kind ≡ 6) → (l : OpenedLog mode size kind F) → AllWithin (valuesOf l) →
       totalFrom (firstTotal kind) (unscaled (l .records)) ≡ totalAdded (Amount (pos 0)) (valuesOf l)
   -- so the log has that in its line t
-  pub foot : (size kind : ℕ) (F : List ℕ) → AreBytes F → ¬ (kind ≡ 6) → (l : OpenedLog size kind F) → AllWithin (valuesOf l) → LogOf size kind F (l .answer) (textAdded l)
+  pub foot : (mode : Mode) (size kind : ℕ) (F : List ℕ) → AreBytes F → ¬ (kind ≡ 6) → (l : OpenedLog mode size kind F) → AllWithin (valuesOf l) → LogOf mode size kind F (l .answer) (textAdded l)
   -- and the number in it is their sum
   pub number : (a z : ℤ) (ws : List Added) → totalAdded (Amount a) ws ≡ Amount z → z ≡ sumAdded a ws
   -- kind 6 has no line t, whatever its records
-  pub array : (size : ℕ) (F : List ℕ) (l : OpenedLog size 6 F) → LogOf size 6 F (l .answer) (headerText (l .header) ++ (linesOf (l .records) ++ endLine (l .answer) (length (l .records))))
+  pub array : (mode : Mode) (size : ℕ) (F : List ℕ) (l : OpenedLog mode size 6 F) → LogOf mode size 6 F (l .answer) (headerText (l .header) ++ (linesOf (l .records) ++ endLine (l .answer) (length (l .records))))
   -- nor has a refused opening: e stands alone
-  pub refused : (size kind : ℕ) (F : List ℕ) (z : Stop) → inBuffer size (openRule kind) F ≡ stops z → LogOf size kind F z (endLine z 0)
+  pub refused : (mode : Mode) (size kind : ℕ) (F : List ℕ) (z : Stop) → inBuffer size (openBy mode kind) F ≡ stops z → LogOf mode size kind F z (endLine z 0)
   -- the line t of some totals
   pub lines : map totalLine someTotals ≡ map ascii someLines
   -- of document 01's printed run it is so
-  pub printed : LogOf 32768 1 printedRun finished printedLog
-  pub within : AllWithin (addedUp 1 2 printedRun)
+  pub printed : LogOf Plain 32768 1 printedRun finished printedLog
+  pub within : AllWithin (addedUp Plain 1 2 printedRun)

@@ -1,4 +1,4 @@
--- The lines told on standard error: what is left of the input where a run closes with 0, and that it is too long.
+-- The lines told on standard error behind the program's name: what is left of the input where a run closes with 0, and that it is too long.
 use Prim.Native.Nat.{ℕ}
 use Prim.Native.Char.{code}
 use Prim.Native.String.{String, [] as ε, _∷_ as _then_}
@@ -24,7 +24,7 @@ scanText scan behind = cond (eqb scan 0) (behindText behind) (number scan 32 ++ 
 
 -- the bytes left of a DAD run's last scan, and those behind it that stand in the buffer
 unfoldable pub leftLine : ℕ → ℕ → List ℕ
-leftLine scan behind = ascii "chemlog: left: " ++ scanText scan behind
+leftLine scan behind = ascii "left: " ++ scanText scan behind
 
 unfoldable pub tooLongLine : List ℕ
-tooLongLine = ascii "chemlog: the log is too long\n"
+tooLongLine = ascii "the log is too long\n"

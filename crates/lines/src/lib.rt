@@ -220,7 +220,7 @@ pub fn put_left(out: &mut [u8], at: usize, scan: usize, behind: usize) -> usize
     ensures { λ r. ⌜ Put (leftLine scan behind) at (now (out .entry)) r (now (out .exit)) ⌝ }
     ensures { λ r. ⌜ r ≤ at + 128 ⌝ }
 {
-    let a = put_text(out, at, b"chemlog: left: ");
+    let a = put_text(out, at, b"left: ");
     put_scan(out, a, scan, behind)
 }
 
@@ -230,5 +230,5 @@ pub fn put_too_long(out: &mut [u8], at: usize) -> usize
     ensures { λ r. ⌜ Put tooLongLine at (now (out .entry)) r (now (out .exit)) ⌝ }
     ensures { λ r. ⌜ r ≤ at + 128 ⌝ }
 {
-    put_text(out, at, b"chemlog: the log is too long\n")
+    put_text(out, at, b"the log is too long\n")
 }

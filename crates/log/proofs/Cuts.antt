@@ -13,11 +13,12 @@ use Rattle.rules.specs.Rule.{Rule, gives, field, refuses, ends, Stop, moreBytes
 use Rattle.rules.specs.Calls.{Item}
 use Rattle.rules.proofs.Laws.{got≢stops, by-fit, read-fits, read-past, taking-stops, waits-iff, Keeps, keeps}
 use Rattle.rules.proofs.Last.{told-last}
-use Rattle.metadata.specs.Metadata.{Header, openRule}
+use Rattle.metadata.specs.Metadata.{Header}
 use Rattle.chemstation.specs.Next.{rule}
 use Rattle.streams.specs.declared.State.{State}
 use Rattle.streams.specs.declared.Record.{Record}
-use Rattle.opening.specs.Opening.{begins}
+use Rattle.streams.specs.declared.Mode.{Mode}
+use Rattle.modes.specs.Modes.{openBy, beginsBy}
 use Rattle.lines.specs.Lines.{endLine}
 use Rattle.log.specs.Log.{inBuffer, Reads, one-more, no-more, openedText, LogOf, refused-run, opened-run, BeginsLog, no-header, same-records, OneLog}
 use Rattle.log.proofs.Exists.{there}
@@ -92,9 +93,9 @@ reads-larger : {size : ℕ} (more : ℕ) {st : State} {bs : List ℕ} {rs : List
 reads-larger {size} more {st} {bs} h d (one-more {x = x} {n = n} e r) = one-more (larger-reads size more (rule st) bs (got x n) h e (λ q. got≢stops q)) (reads-larger more h d r)
 reads-larger {size} more {st} {bs} h d (no-more {z = z} e) = no-more (larger-reads size more (rule st) bs (stops z) h e (λ q. d cc))
 
-larger : (size more kind : ℕ) (F : List ℕ) (z : Stop) (t : List ℕ) → size ≤ more → LogOf size kind F z t → ¬ (z ≡ moreBytes) → LogOf more kind F z t
-larger size more kind F z t h (refused-run e) d = refused-run (larger-reads size more (openRule kind) F (stops z) h e (λ q. d cc))
-larger size more kind F z t h (opened-run {h = i} {n = n} e r) d = opened-run (larger-reads size more (openRule kind) F (got i n) h e (λ q. got≢stops q)) (reads-larger more h d r)
+larger : (mode : Mode) (size more kind : ℕ) (F : List ℕ) (z : Stop) (t : List ℕ) → size ≤ more → LogOf mode size kind F z t → ¬ (z ≡ moreBytes) → LogOf mode more kind F z t
+larger mode size more kind F z t h (refused-run e) d = refused-run (larger-reads size more (openBy mode kind) F (stops z) h e (λ q. d cc))
+larger mode size more kind F z t h (opened-run {h = i} {n = n} e r) d = opened-run (larger-reads size more (openBy mode kind) F (got i n) h e (λ q. got≢stops q)) (reads-larger more h d r)
 
 -- ---- one log only
 
@@ -117,21 +118,21 @@ reads-one (one-more {x = x} {n = n} e r) s = let p = reads-step x n s e in let q
 reads-one (no-more {z = z} e) s = let p = reads-stop z s e in (sym (p .0), sym (p .1))
 
 -- a log where the opening gives a header
-pub log-step : {size kind : ℕ} {F : List ℕ} {z : Stop} {u : List ℕ} (h : Header) (n : ℕ) → LogOf size kind F z u → inBuffer size (openRule kind) F ≡ got h n →
-    (rs : List Record) × (u ≡ openedText kind h rs z) × Reads size (begins kind h) (drop n F) rs z
+pub log-step : {mode : Mode} {size kind : ℕ} {F : List ℕ} {z : Stop} {u : List ℕ} (h : Header) (n : ℕ) → LogOf mode size kind F z u → inBuffer size (openBy mode kind) F ≡ got h n →
+    (rs : List Record) × (u ≡ openedText kind h rs z) × Reads size (beginsBy mode kind h) (drop n F) rs z
 log-step h n (refused-run e) f = absurd (got≢stops (sym f ∙ e))
-log-step {size} {kind} {F} {z} h n (opened-run {h = i} {n = m} {rs = rs} e r) f =
+log-step {mode} {size} {kind} {F} {z} h n (opened-run {h = i} {n = m} {rs = rs} e r) f =
     let same : i ≡ h = cc in
     let many : m ≡ n = cc in
-    (rs, ap (λ x. openedText kind x rs z) same, subst₂ (λ x k. Reads size (begins kind x) (drop k F) rs z) same many r)
+    (rs, ap (λ x. openedText kind x rs z) same, subst₂ (λ x k. Reads size (beginsBy mode kind x) (drop k F) rs z) same many r)
 
-pub log-stop : {size kind : ℕ} {F : List ℕ} {z : Stop} {u : List ℕ} (y : Stop) → LogOf size kind F z u → inBuffer size (openRule kind) F ≡ stops y → u ≡ endLine y 0
+pub log-stop : {mode : Mode} {size kind : ℕ} {F : List ℕ} {z : Stop} {u : List ℕ} (y : Stop) → LogOf mode size kind F z u → inBuffer size (openBy mode kind) F ≡ stops y → u ≡ endLine y 0
 log-stop y (opened-run e r) f = absurd (got≢stops (sym e ∙ f))
 log-stop y (refused-run {z = z} e) f = let same : z ≡ y = cc in ap (λ w. endLine w 0) same
 
-pub one : (size kind : ℕ) (F : List ℕ) (y z : Stop) (t u : List ℕ) → LogOf size kind F y t → LogOf size kind F z u → t ≡ u
-one size kind F y z t u (refused-run e) s = sym (log-stop y s e)
-one size kind F y z t u (opened-run {h = h} {n = n} e r) s = let p = log-step h n s e in let q = reads-one r (p .2) in ap₂ (openedText kind h) (q .0) (q .1) ∙ sym (p .1)
+pub one : (mode : Mode) (size kind : ℕ) (F : List ℕ) (y z : Stop) (t u : List ℕ) → LogOf mode size kind F y t → LogOf mode size kind F z u → t ≡ u
+one mode size kind F y z t u (refused-run e) s = sym (log-stop y s e)
+one mode size kind F y z t u (opened-run {h = h} {n = n} e r) s = let p = log-step h n s e in let q = reads-one r (p .2) in ap₂ (openedText kind h) (q .0) (q .1) ∙ sym (p .1)
 
 -- ---- up to `e m`
 
@@ -142,15 +143,15 @@ reads-begin {size} {more} {st} {bs} h (one-more {x = x} {n = n} e r) s =
     (b .0, p .1 ∙ ap (λ l. x .shows ∷ l) (b .1))
 reads-begin {us = us} h (no-more e) s = (us, refl)
 
-log-begins : {size more kind : ℕ} {F : List ℕ} {y z : Stop} {t u : List ℕ} → size ≤ more → z ≡ moreBytes → LogOf size kind F z t → LogOf more kind F y u → BeginsLog kind y t u
+log-begins : {mode : Mode} {size more kind : ℕ} {F : List ℕ} {y z : Stop} {t u : List ℕ} → size ≤ more → z ≡ moreBytes → LogOf mode size kind F z t → LogOf mode more kind F y u → BeginsLog kind y t u
 log-begins {kind = kind} {y = y} {u = u} h m (refused-run e) s = subst (λ w. BeginsLog kind y (endLine w 0) u) (sym m) (no-header u)
-log-begins {size} {more} {kind} {F} {y} {z} {t} {u} h m (opened-run {h = i} {n = n} {rs = rs} e r) s =
-    let p = log-step i n s (larger-reads size more (openRule kind) F (got i n) h e (λ q. got≢stops q)) in
+log-begins {mode} {size} {more} {kind} {F} {y} {z} {t} {u} h m (opened-run {h = i} {n = n} {rs = rs} e r) s =
+    let p = log-step i n s (larger-reads size more (openBy mode kind) F (got i n) h e (λ q. got≢stops q)) in
     let b = reads-begin h r (p .2) in
     subst₂ (BeginsLog kind y) (ap (openedText kind i rs) (sym m)) (sym (p .1 ∙ ap (λ l. openedText kind i l y) (b .1))) (same-records i rs (b .0))
 
-begins-so : (size more kind : ℕ) (F : List ℕ) (y : Stop) (t u : List ℕ) → size ≤ more → LogOf size kind F moreBytes t → LogOf more kind F y u → BeginsLog kind y t u
-begins-so size more kind F y t u h l s = log-begins h refl l s
+begins-so : (mode : Mode) (size more kind : ℕ) (F : List ℕ) (y : Stop) (t u : List ℕ) → size ≤ more → LogOf mode size kind F moreBytes t → LogOf mode more kind F y u → BeginsLog kind y t u
+begins-so mode size more kind F y t u h l s = log-begins h refl l s
 
 -- ---- all at hand
 
@@ -161,9 +162,9 @@ records-no-wait : {size : ℕ} {st : State} {bs : List ℕ} {rs : List Record} {
 records-no-wait {bs = bs} h (one-more {n = n} e r) q = records-no-wait (omega (arith, length-drop n bs)) r q
 records-no-wait {size} {st} {bs} h (no-more e) q = no-wait-reads size (rule st) bs h (e ∙ ap stops q)
 
-no-wait : (size kind : ℕ) (F : List ℕ) (z : Stop) (t : List ℕ) → length F < size → LogOf size kind F z t → ¬ (z ≡ moreBytes)
-no-wait size kind F z t h (refused-run e) q = no-wait-reads size (openRule kind) F h (e ∙ ap stops q)
-no-wait size kind F z t h (opened-run {n = n} e r) q = records-no-wait (omega (arith, length-drop n F)) r q
+no-wait : (mode : Mode) (size kind : ℕ) (F : List ℕ) (z : Stop) (t : List ℕ) → length F < size → LogOf mode size kind F z t → ¬ (z ≡ moreBytes)
+no-wait mode size kind F z t h (refused-run e) q = no-wait-reads size (openBy mode kind) F h (e ∙ ap stops q)
+no-wait mode size kind F z t h (opened-run {n = n} e r) q = records-no-wait (omega (arith, length-drop n F)) r q
 
 pub one-log : OneLog
 one-log = record { there = there; one = one; larger = larger; begins-so = begins-so; no-wait = no-wait }

@@ -10,12 +10,13 @@ use lib.ListN.{length, take, drop, length-drop, length-take}
 use Rattle.rules.specs.Rule.{Rule, Stop, Read, got, stops, read}
 use Rattle.rules.specs.Calls.{Item}
 use Rattle.rules.proofs.Laws.{taken-within}
-use Rattle.metadata.specs.Metadata.{Header, openRule}
+use Rattle.metadata.specs.Metadata.{Header}
 use Rattle.chemstation.specs.Next.{rule}
 use Rattle.chemstation.proofs.Progress.{record-takes}
 use Rattle.streams.specs.declared.State.{State}
 use Rattle.streams.specs.declared.Record.{Record}
-use Rattle.opening.specs.Opening.{begins}
+use Rattle.streams.specs.declared.Mode.{Mode}
+use Rattle.modes.specs.Modes.{openBy, beginsBy}
 use Rattle.lines.specs.Lines.{endLine}
 use Rattle.log.specs.Log.{inBuffer, Reads, one-more, no-more, openedText, LogOf, refused-run, opened-run}
 
@@ -42,11 +43,11 @@ records-there : (most size : ℕ) (st : State) (bs : List ℕ) → length bs ≤
 records-there zero size st bs h = by-reading size st bs λ x n e. absurd (omega (arith, takes size st bs e .0, takes size st bs e .1))
 records-there (suc most) size st bs h = by-reading size st bs λ x n e. records-there most size (x .after) (drop n bs) (omega (arith, length-drop n bs, takes size st bs e .0))
 
-pub there : (size kind : ℕ) (F : List ℕ) → (z : Stop) × (t : List ℕ) × LogOf size kind F z t
-there size kind F = go (inBuffer size (openRule kind) F) refl
+pub there : (mode : Mode) (size kind : ℕ) (F : List ℕ) → (z : Stop) × (t : List ℕ) × LogOf mode size kind F z t
+there mode size kind F = go (inBuffer size (openBy mode kind) F) refl
   where
-    go : (x : Read Header) → inBuffer size (openRule kind) F ≡ x → (z : Stop) × (t : List ℕ) × LogOf size kind F z t
+    go : (x : Read Header) → inBuffer size (openBy mode kind) F ≡ x → (z : Stop) × (t : List ℕ) × LogOf mode size kind F z t
     go (got h n) e =
-        let r = records-there (length (drop n F)) size (begins kind h) (drop n F) (omega arith) in
+        let r = records-there (length (drop n F)) size (beginsBy mode kind h) (drop n F) (omega arith) in
         (r .1, openedText kind h (r .0) (r .1), opened-run e (r .2))
     go (stops z) e = (z, endLine z 0, refused-run e)

@@ -8,11 +8,12 @@ use lib.IntN.{pos}
 use lib.ListN.{length, take, drop}
 use Rattle.rules.specs.Rule.{Rule, Stop, moreBytes, Read, got, stops, read}
 use Rattle.rules.specs.Calls.{Item}
-use Rattle.metadata.specs.Metadata.{Header, openRule}
+use Rattle.metadata.specs.Metadata.{Header}
 use Rattle.chemstation.specs.Next.{rule}
 use Rattle.streams.specs.declared.State.{State}
 use Rattle.streams.specs.declared.Record.{Record}
-use Rattle.opening.specs.Opening.{begins}
+use Rattle.streams.specs.declared.Mode.{Mode}
+use Rattle.modes.specs.Modes.{openBy, beginsBy}
 use Rattle.sums.specs.Sums.{totalFrom}
 use Rattle.sums.specs.declared.Total.{Total}
 use Rattle.sums.specs.declared.Total.the-variants.{Absent, Amount}
@@ -43,13 +44,13 @@ footText t rs z count = totalLine (totalFrom t (unscaled rs)) ++ endLine z count
 abbrev pub openedText : ℕ → Header → List Record → Stop → List ℕ
 openedText kind h rs z = headerText h ++ (linesOf rs ++ footText (firstTotal kind) rs z (length rs))
 
--- 'A refused opening prints only e'
-pub data LogOf (size kind : ℕ) (F : List ℕ) : Stop → List ℕ → Type 0 where
-  refused-run : {z : Stop} → inBuffer size (openRule kind) F ≡ stops z → LogOf size kind F z (endLine z 0)
-  opened-run : {h : Header} {n : ℕ} {rs : List Record} {z : Stop} → inBuffer size (openRule kind) F ≡ got h n → Reads size (begins kind h) (drop n F) rs z →
-      LogOf size kind F z (openedText kind h rs z)
+-- by the reading that opens it: 'A refused opening prints only e'
+pub data LogOf (mode : Mode) (size kind : ℕ) (F : List ℕ) : Stop → List ℕ → Type 0 where
+  refused-run : {z : Stop} → inBuffer size (openBy mode kind) F ≡ stops z → LogOf mode size kind F z (endLine z 0)
+  opened-run : {h : Header} {n : ℕ} {rs : List Record} {z : Stop} → inBuffer size (openBy mode kind) F ≡ got h n → Reads size (beginsBy mode kind h) (drop n F) rs z →
+      LogOf mode size kind F z (openedText kind h rs z)
 
--- ---- what is so of every file
+-- ---- what is so of every file, by either reading
 
 -- how a log that closes with `m` begins another of the same file: its closing line stands alone, or both have one header, and its records begin the other's
 pub data BeginsLog (kind : ℕ) (y : Stop) : List ℕ → List ℕ → Type 0 where
@@ -59,10 +60,10 @@ pub data BeginsLog (kind : ℕ) (y : Stop) : List ℕ → List ℕ → Type 0 wh
 
 pub record OneLog : Type 0 where
   -- it has a log, and one only
-  pub there : (size kind : ℕ) (F : List ℕ) → (z : Stop) × (t : List ℕ) × LogOf size kind F z t
-  pub one : (size kind : ℕ) (F : List ℕ) (y z : Stop) (t u : List ℕ) → LogOf size kind F y t → LogOf size kind F z u → t ≡ u
+  pub there : (mode : Mode) (size kind : ℕ) (F : List ℕ) → (z : Stop) × (t : List ℕ) × LogOf mode size kind F z t
+  pub one : (mode : Mode) (size kind : ℕ) (F : List ℕ) (y z : Stop) (t u : List ℕ) → LogOf mode size kind F y t → LogOf mode size kind F z u → t ≡ u
   -- a larger buffer gives the same log, unless it closes with `m`; then too the lines of all its records are the same
-  pub larger : (size more kind : ℕ) (F : List ℕ) (z : Stop) (t : List ℕ) → size ≤ more → LogOf size kind F z t → ¬ (z ≡ moreBytes) → LogOf more kind F z t
-  pub begins-so : (size more kind : ℕ) (F : List ℕ) (y : Stop) (t u : List ℕ) → size ≤ more → LogOf size kind F moreBytes t → LogOf more kind F y u → BeginsLog kind y t u
+  pub larger : (mode : Mode) (size more kind : ℕ) (F : List ℕ) (z : Stop) (t : List ℕ) → size ≤ more → LogOf mode size kind F z t → ¬ (z ≡ moreBytes) → LogOf mode more kind F z t
+  pub begins-so : (mode : Mode) (size more kind : ℕ) (F : List ℕ) (y : Stop) (t u : List ℕ) → size ≤ more → LogOf mode size kind F moreBytes t → LogOf mode more kind F y u → BeginsLog kind y t u
   -- in a buffer that is larger than the file all of it is at hand, told last: no log closes with `m`
-  pub no-wait : (size kind : ℕ) (F : List ℕ) (z : Stop) (t : List ℕ) → length F < size → LogOf size kind F z t → ¬ (z ≡ moreBytes)
+  pub no-wait : (mode : Mode) (size kind : ℕ) (F : List ℕ) (z : Stop) (t : List ℕ) → length F < size → LogOf mode size kind F z t → ¬ (z ≡ moreBytes)

@@ -11,11 +11,13 @@ use Rattle.error.specs.Number.{stopOf}
 use Rattle.error.specs.declared.Refusal.{Refusal}
 use Rattle.error.specs.declared.Stopped.{Stopped}
 use Rattle.error.specs.declared.Stopped.the-variants.{Refused, Finished, MoreBytes}
-use Rattle.metadata.specs.Metadata.{Header, openRule}
+use Rattle.metadata.specs.Metadata.{Header}
 use Rattle.metadata.specs.declared.ChemstationMetadata.{ChemstationMetadata}
 use Rattle.streams.specs.declared.State.{State}
-use Rattle.opening.specs.Opening.{begins, startRead, saysRead, OpensRun}
-use Rattle.opening.proofs.HeaderOpens.{state-by, says-by}
+use Rattle.streams.specs.declared.Mode.{Mode}
+use Rattle.opening.specs.Opening.{startRead, saysRead}
+use Rattle.modes.specs.Modes.{openBy, beginsBy, OpensBy}
+use Rattle.modes.proofs.ModeLaws.{state-of, says-of}
 use Rattle.opening.specs.declared.Opening.the-variants as opening
 use Rattle.opening.specs.declared.OpenedRun.{OpenedRun}
 use Rattle.lines.specs.Lines.{headerLine}
@@ -27,38 +29,38 @@ use Rattle.places.specs.declared.Place.{Place}
 use Rattle.places.specs.Machine.{movedTo, totalled, putAt, IsStep, closes, refills, logsRecords, opens}
 use Rattle.places.proofs.Steps.{step-as}
 
-refused-so : (kind : ℕ) (x : Read Header) (z : Stopped) → startRead (opening.Stopped z) ≡ mapRead (begins kind) x → x ≡ stops (stopOf z)
-refused-so kind (got h n) z e = absurd (got≢stops (sym e))
-refused-so kind (stops y) z e = cc
+refused-so : (mode : Mode) (kind : ℕ) (x : Read Header) (z : Stopped) → startRead (opening.Stopped z) ≡ mapRead (beginsBy mode kind) x → x ≡ stops (stopOf z)
+refused-so mode kind (got h n) z e = absurd (got≢stops (sym e))
+refused-so mode kind (stops y) z e = cc
 
-record Begun (kind : ℕ) (x : Read Header) (st : State) (n : ℕ) (d : ChemstationMetadata) : Type 0 where
+record Begun (mode : Mode) (kind : ℕ) (x : Read Header) (st : State) (n : ℕ) (d : ChemstationMetadata) : Type 0 where
   header : Header
   reads : x ≡ got header n
-  state : begins kind header ≡ st
+  state : beginsBy mode kind header ≡ st
   says : header .says ≡ d
 
-begun : (kind : ℕ) (x : Read Header) (st : State) (n : ℕ) (d : ChemstationMetadata) → startRead (opening.Run st n) ≡ mapRead (begins kind) x → saysRead d (opening.Run st n) ≡ mapRead (λ h. h .says) x → Begun kind x st n d
-begun kind (got h k) st n d e f = record { header = h; reads = cc; state = cc; says = cc }
-begun kind (stops y) st n d e f = absurd (got≢stops e)
+begun : (mode : Mode) (kind : ℕ) (x : Read Header) (st : State) (n : ℕ) (d : ChemstationMetadata) → startRead (opening.Run st n) ≡ mapRead (beginsBy mode kind) x → saysRead d (opening.Run st n) ≡ mapRead (λ h. h .says) x → Begun mode kind x st n d
+begun mode kind (got h k) st n d e f = record { header = h; reads = cc; state = cc; says = cc }
+begun mode kind (stops y) st n d e f = absurd (got≢stops e)
 
-module _ (kind : ℕ) (p : Place) (buf out : List ℕ) {last : Bool} {s : List ℕ} {r : OpenedRun} (o : OpensRun kind last s r) where
+module _ (mode : Mode) (kind : ℕ) (p : Place) (buf out : List ℕ) {last : Bool} {s : List ℕ} {r : OpenedRun} (o : OpensBy mode kind last s r) where
   abbrev x : Read Header
-  x = read last (openRule kind) s
+  x = read last (openBy mode kind) s
 
-  pub open-waits : {a : Ask} {b t : List ℕ} (z : Stopped) → r .answer ≡ opening.Stopped z → z ≡ MoreBytes → IsStep (refills p buf out) a b t → IsStep (opens kind p buf out x) a b t
-  open-waits z e f i = step-as (ap (opens kind p buf out) (sym (refused-so kind x z (ap startRead (sym e) ∙ state-by o) ∙ ap (λ y. stops (stopOf y)) f))) i
+  pub open-waits : {a : Ask} {b t : List ℕ} (z : Stopped) → r .answer ≡ opening.Stopped z → z ≡ MoreBytes → IsStep (refills p buf out) a b t → IsStep (opens mode kind p buf out x) a b t
+  open-waits z e f i = step-as (ap (opens mode kind p buf out) (sym (refused-so mode kind x z (ap startRead (sym e) ∙ state-of o) ∙ ap (λ y. stops (stopOf y)) f))) i
 
-  pub open-finished : {a : Ask} {b t : List ℕ} (z : Stopped) → r .answer ≡ opening.Stopped z → z ≡ Finished → IsStep (closes p Over (stopOf z) buf out) a b t → IsStep (opens kind p buf out x) a b t
+  pub open-finished : {a : Ask} {b t : List ℕ} (z : Stopped) → r .answer ≡ opening.Stopped z → z ≡ Finished → IsStep (closes p Over (stopOf z) buf out) a b t → IsStep (opens mode kind p buf out x) a b t
   open-finished z e f i =
-      step-as (ap (λ y. closes p Over (stopOf y) buf out) f ∙ ap (opens kind p buf out) (sym (refused-so kind x z (ap startRead (sym e) ∙ state-by o) ∙ ap (λ y. stops (stopOf y)) f))) i
+      step-as (ap (λ y. closes p Over (stopOf y) buf out) f ∙ ap (opens mode kind p buf out) (sym (refused-so mode kind x z (ap startRead (sym e) ∙ state-of o) ∙ ap (λ y. stops (stopOf y)) f))) i
 
-  pub open-refused : {a : Ask} {b t : List ℕ} (z : Stopped) (c : Refusal) → r .answer ≡ opening.Stopped z → z ≡ Refused c → IsStep (closes p Over (stopOf z) buf out) a b t → IsStep (opens kind p buf out x) a b t
+  pub open-refused : {a : Ask} {b t : List ℕ} (z : Stopped) (c : Refusal) → r .answer ≡ opening.Stopped z → z ≡ Refused c → IsStep (closes p Over (stopOf z) buf out) a b t → IsStep (opens mode kind p buf out x) a b t
   open-refused z c e f i =
-      step-as (ap (λ y. closes p Over (stopOf y) buf out) f ∙ ap (opens kind p buf out) (sym (refused-so kind x z (ap startRead (sym e) ∙ state-by o) ∙ ap (λ y. stops (stopOf y)) f))) i
+      step-as (ap (λ y. closes p Over (stopOf y) buf out) f ∙ ap (opens mode kind p buf out) (sym (refused-so mode kind x z (ap startRead (sym e) ∙ state-of o) ∙ ap (λ y. stops (stopOf y)) f))) i
 
   module _ (st : State) (n : ℕ) (e : r .answer ≡ opening.Run st n) where
-    start : Begun kind x st n (r .metadata)
-    start = begun kind x st n (r .metadata) (ap startRead (sym e) ∙ state-by o) (ap (saysRead (r .metadata)) (sym e) ∙ says-by o)
+    start : Begun mode kind x st n (r .metadata)
+    start = begun mode kind x st n (r .metadata) (ap startRead (sym e) ∙ state-of o) (ap (saysRead (r .metadata)) (sym e) ∙ says-of o)
 
     pub open-reads : (h : Header) × (x ≡ got h n)
     open-reads = (start .header, start .reads)
@@ -67,16 +69,16 @@ module _ (kind : ℕ) (p : Place) (buf out : List ℕ) {last : Bool} {s : List �
     line = ap (λ d. headerLine (d .edition) (d .size)) (sym (start .says))
 
     abbrev here : Place
-    here = totalled (movedTo p (Records (begins kind (start .header))) (p .from + n) (p .to) (p .at + length (headerText (start .header))) (p .count)) (firstTotal kind)
+    here = totalled (movedTo p (Records (beginsBy mode kind (start .header))) (p .from + n) (p .to) (p .at + length (headerText (start .header))) (p .count)) (firstTotal kind)
 
     -- behind the header the records at hand are logged
     pub open-runs : {a : Ask} {b t : List ℕ} (m q : Place) (out′ : List ℕ) (at : ℕ) (total : Total) → at ≡ p .at + length (headerLine (r .metadata .edition) (r .metadata .size)) →
         out′ ≡ putAt (p .at) (headerLine (r .metadata .edition) (r .metadata .size)) out → m ≡ movedTo p (Records st) (p .from + n) (p .to) at (p .count) → q ≡ totalled m total → total ≡ firstTotal kind →
-        IsStep (logsRecords st q buf out′) a b t → IsStep (opens kind p buf out x) a b t
+        IsStep (logsRecords st q buf out′) a b t → IsStep (opens mode kind p buf out x) a b t
     open-runs m q out′ at total f g k k′ k″ i =
-        let moved : m ≡ movedTo p (Records (begins kind (start .header))) (p .from + n) (p .to) (p .at + length (headerText (start .header))) (p .count) =
+        let moved : m ≡ movedTo p (Records (beginsBy mode kind (start .header))) (p .from + n) (p .to) (p .at + length (headerText (start .header))) (p .count) =
         k ∙ ap₂ (λ s l. movedTo p (Records s) (p .from + n) (p .to) l (p .count)) (sym (start .state)) (f ∙ ap (λ l. p .at + length l) line) in
         let there : q ≡ here = k′ ∙ ap₂ totalled moved k″ in
         step-as
-        (ap₂ (λ s y. logsRecords s y buf out′) (sym (start .state)) there ∙ ap (λ o. logsRecords (begins kind (start .header)) here buf o) (g ∙ ap (λ l. putAt (p .at) l out) line) ∙ ap (opens kind p buf out) (sym (start .reads)))
+        (ap₂ (λ s y. logsRecords s y buf out′) (sym (start .state)) there ∙ ap (λ o. logsRecords (beginsBy mode kind (start .header)) here buf o) (g ∙ ap (λ l. putAt (p .at) l out) line) ∙ ap (opens mode kind p buf out) (sym (start .reads)))
         i

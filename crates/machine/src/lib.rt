@@ -1,5 +1,6 @@
 // The log program without input and output: a run as a machine over two lent buffers, that asks for what it needs.
 use error::Stopped;
+use modes::open_by;
 use opening::Opening;
 use places::Ask;
 use places::Phase;
@@ -9,6 +10,7 @@ use places::moves;
 use places::refill;
 use places::write;
 use reader::Closing;
+use streams::Mode;
 use streams::State;
 use sums::Total;
 ghost use Prim.Native.Nat.{_+_, _≤_};
@@ -17,7 +19,7 @@ ghost use lib.ListN.{length};
 ghost use Rattle.rules.specs.Rule.{read};
 ghost use Rattle.rules.specs.Calls.{stopped};
 ghost use Rattle.error.specs.Number.{stopOf};
-ghost use Rattle.metadata.specs.Metadata.{openRule};
+ghost use Rattle.modes.specs.Modes.{openBy};
 ghost use Rattle.log.specs.Log.{firstTotal};
 ghost use Rattle.places.specs.Machine.{atHand, fits, goesOn, logsRecords, opens, stepOf, IsStep};
 
@@ -70,14 +72,14 @@ fn first_total(kind: u8) -> Total
     Total::Amount(0)
 }
 
-// Opens the run, and logs the records at hand behind its header.
-fn open(kind: u8, p: Place, buf: &mut [u8], out: &mut [u8]) -> Ask
+// Opens the run by its reading, and logs the records at hand behind its header.
+fn open(mode: Mode, kind: u8, p: Place, buf: &mut [u8], out: &mut [u8]) -> Ask
     requires { ⌜ (p .from ≤ p .to) × (p .to ≤ length (now buf)) × (p .at + 68 ≤ length (now out)) ⌝ }
-    ensures { λ r. ⌜ IsStep (opens kind p (now (buf .entry)) (now (out .entry)) (read (p .last) (openRule kind) (atHand (now (buf .entry)) p))) r (now (buf .exit)) (now (out .exit)) ⌝ }
+    ensures { λ r. ⌜ IsStep (opens mode kind p (now (buf .entry)) (now (out .entry)) (read (p .last) (openBy mode kind) (atHand (now (buf .entry)) p))) r (now (buf .exit)) (now (out .exit)) ⌝ }
 {
     let from = p.from;
     let to = p.to;
-    let o = opening::open_run(kind, &buf[from..to], p.last);
+    let o = open_by(mode, kind, &buf[from..to], p.last);
     let answer = o.answer;
     let d = o.metadata;
     match answer {
@@ -115,8 +117,8 @@ pub fn step(p: Place, buf: &mut [u8], out: &mut [u8]) -> Ask
     }
     let phase = p.phase;
     match phase {
-        Phase::Digit => places::first(p, out),
-        Phase::Header(kind) => open(kind, p, buf, out),
+        Phase::Digit(mode) => places::first(mode, p, out),
+        Phase::Header(mode, kind) => open(mode, kind, p, buf, out),
         Phase::Records(st) => log_hand(st, p, buf, out),
         Phase::Ended(_, _) => places::after(p, out),
         Phase::TooLong => places::after(p, out),

@@ -117,7 +117,8 @@ fn described(
     }
 }
 
-fn blank() -> ChemstationMetadata
+// The description of a run that is refused.
+pub fn blank() -> ChemstationMetadata
     ensures { λ r. ⌜ r ≡ blank ⌝ }
 {
     let text_starts = [0usize; 8];

@@ -7,11 +7,12 @@ use lib.Dec.{eqb, leb, ltb}
 use lib.ListN.{length, take, drop, getD}
 use Rattle.rules.specs.Rule.{Stop, refused, finished, moreBytes, Read, got, stops, read}
 use Rattle.rules.specs.Calls.{Answer, full, stopped, Reading}
-use Rattle.metadata.specs.Metadata.{Header, openRule}
-use Rattle.opening.specs.Opening.{begins}
+use Rattle.metadata.specs.Metadata.{Header}
+use Rattle.modes.specs.Modes.{openBy, beginsBy}
 use Rattle.chemstation.specs.Next.{rule}
 use Rattle.streams.specs.declared.State.{State}
-use Rattle.streams.specs.declared.State.the-variants.{Fid, Ms, Mwd, Dad, Uv, Array}
+use Rattle.streams.specs.declared.State.the-variants.{Fid, Ms, Mwd, Dad, Uv, Array, AtlasDad, AtlasUv}
+use Rattle.streams.specs.declared.Mode.{Mode}
 use Rattle.streams.specs.declared.Record.{Record}
 use Rattle.digits.specs.Numbers.{kindOf}
 use Rattle.sums.specs.Sums.{totalFrom}
@@ -30,8 +31,8 @@ use Rattle.places.specs.declared.Ask.the-variants as ask
 -- ---- places
 
 -- the first of the bytes: none has come
-abbrev pub started : Place
-started = record { phase = Digit; from = 0; to = 0; last = false; at = 0; count = 0; total = Absent; came = 0 }
+abbrev pub started : Mode → Place
+started mode = record { phase = Digit mode; from = 0; to = 0; last = false; at = 0; count = 0; total = Absent; came = 0 }
 
 abbrev pub movedTo : Place → Phase → ℕ → ℕ → ℕ → ℕ → Place
 movedTo p phase from to at count = record { phase = phase; from = from; to = to; last = p .last; at = at; count = count; total = p .total; came = p .came }
@@ -100,7 +101,7 @@ finishedFrom (suc others) n st bs = cond (isFinished (read false (rule st) (take
 abbrev pub closingBytes : State → List ℕ → ℕ
 closingBytes st bs = finishedFrom (length bs) 0 st bs
 
--- the bytes of the last scan that a DAD run leaves
+-- the bytes of the last scan that a DAD run leaves; under the atlas reading it leaves none, as it ends where none are due
 abbrev pub scanLeft : State → ℕ
 scanLeft (Fid st) = 0
 scanLeft (Ms st) = 0
@@ -108,6 +109,8 @@ scanLeft (Mwd st) = 0
 scanLeft (Dad st) = st .«n_bytes_left» .0
 scanLeft (Uv st) = 0
 scanLeft (Array st) = 0
+scanLeft (AtlasDad st) = 0
+scanLeft (AtlasUv st) = 0
 
 abbrev pub endsBy : State → Place → List ℕ → List ℕ → List ℕ → Stepped
 endsBy st p hand buf out = closes (movedTo p (p .phase) (p .from + closingBytes st hand) (p .to) (p .at) (p .count)) (Ended (scanLeft st) (scanLeft st)) finished buf out
@@ -150,13 +153,13 @@ logsRecords st p buf out = behind p st buf out (logged (length out - p .at) (p .
 -- ---- the header
 
 -- 'A refused opening prints only e'
-abbrev pub opens : ℕ → Place → List ℕ → List ℕ → Read Header → Stepped
-opens kind p buf out (got h n) =
-    let st = begins kind h in
+abbrev pub opens : Mode → ℕ → Place → List ℕ → List ℕ → Read Header → Stepped
+opens mode kind p buf out (got h n) =
+    let st = beginsBy mode kind h in
     logsRecords st (totalled (movedTo p (Records st) (p .from + n) (p .to) (p .at + length (headerText h)) (p .count)) (firstTotal kind)) buf (putAt (p .at) (headerText h) out)
-opens kind p buf out (stops moreBytes) = refills p buf out
-opens kind p buf out (stops (refused c)) = closes p Over (refused c) buf out
-opens kind p buf out (stops finished) = closes p Over finished buf out
+opens mode kind p buf out (stops moreBytes) = refills p buf out
+opens mode kind p buf out (stops (refused c)) = closes p Over (refused c) buf out
+opens mode kind p buf out (stops finished) = closes p Over finished buf out
 
 -- ---- a step
 
@@ -165,8 +168,8 @@ abbrev pub afterwards : Phase → Place → List ℕ → List ℕ → Stepped
 afterwards (Ended all due) p buf out = leaves all due p buf out
 afterwards TooLong p buf out = tells p tooLongLine buf out
 afterwards Over p buf out = nothingMore buf out
-afterwards Digit p buf out = nothingMore buf out
-afterwards (HeaderOf kind) p buf out = nothingMore buf out
+afterwards (Digit mode) p buf out = nothingMore buf out
+afterwards (HeaderOf mode kind) p buf out = nothingMore buf out
 afterwards (Records st) p buf out = nothingMore buf out
 
 abbrev pub onceWritten : Place → List ℕ → List ℕ → Stepped
@@ -174,8 +177,8 @@ onceWritten p buf out = cond (eqb (p .at) 0) (afterwards (p .phase) p buf out) (
 
 abbrev pub byPhase : Phase → Place → List ℕ → List ℕ → Stepped
 -- 'No digit: `e 1 0`'
-byPhase Digit p buf out = cond (p .last) (closes p Over (refused 1) buf out) (record { answer = ask.Read (movedTo p Digit 0 0 (p .at) (p .count)) 0; buf = buf; out = out })
-byPhase (HeaderOf kind) p buf out = opens kind p buf out (read (p .last) (openRule kind) (atHand buf p))
+byPhase (Digit mode) p buf out = cond (p .last) (closes p Over (refused 1) buf out) (record { answer = ask.Read (movedTo p (Digit mode) 0 0 (p .at) (p .count)) 0; buf = buf; out = out })
+byPhase (HeaderOf mode kind) p buf out = opens mode kind p buf out (read (p .last) (openBy mode kind) (atHand buf p))
 byPhase (Records st) p buf out = logsRecords st p buf out
 byPhase (Ended all due) p buf out = onceWritten p buf out
 byPhase TooLong p buf out = onceWritten p buf out
@@ -198,8 +201,8 @@ grown p phase from k = record { phase = phase; from = from; to = p .to + k; last
 
 -- so many bytes came behind those at hand: 'one kind digit, then the file'
 abbrev pub came : Phase → Place → ℕ → List ℕ → Place
-came Digit p k buf = grown p (HeaderOf (kindOf (getD buf (p .to) 0))) (p .to + 1) k
-came (HeaderOf kind) p k buf = grown p (p .phase) (p .from) k
+came (Digit mode) p k buf = grown p (HeaderOf mode (kindOf (getD buf (p .to) 0))) (p .to + 1) k
+came (HeaderOf mode kind) p k buf = grown p (p .phase) (p .from) k
 came (Records st) p k buf = grown p (p .phase) (p .from) k
 came (Ended all due) p k buf = grown p (p .phase) (p .from) k
 came TooLong p k buf = grown p (p .phase) (p .from) k

@@ -2,6 +2,7 @@
 use error::Refusal;
 use error::Stopped;
 use reader::Closing;
+use streams::Mode;
 use streams::State;
 use sums::Total;
 ghost use Prim.Native.Nat.{ℕ, _+_, _-_, _≤_, _<_};
@@ -18,10 +19,10 @@ ghost use Rattle.places.specs.Machine.{most, started, movedTo, totalled,
 
 // What a run does next.
 pub enum Phase {
-    // the digit is due
-    Digit,
+    // the digit is due, of a run that is opened by this reading
+    Digit(Mode),
     // the header of a run of this kind
-    Header(u8),
+    Header(Mode, u8),
     Records(State),
     // the log is closed with 0: so many bytes of the last scan were left, and so many of them are still due
     Ended(usize, usize),
@@ -59,12 +60,12 @@ pub enum Ask {
     Closed,
 }
 
-// The start of a run.
-pub fn start() -> Place
-    ensures { λ r. ⌜ r ≡ started ⌝ }
+// The start of a run that is opened by a reading.
+pub fn start(mode: Mode) -> Place
+    ensures { λ r. ⌜ r ≡ started mode ⌝ }
 {
     Place {
-        phase: Phase::Digit,
+        phase: Phase::Digit(mode),
         from: 0,
         to: 0,
         last: false,
@@ -193,6 +194,8 @@ fn scan_left(st: State) -> usize
         State::Mwd(_) => 0,
         State::Uv(_) => 0,
         State::Array(_) => 0,
+        State::AtlasDad(_) => 0,
+        State::AtlasUv(_) => 0,
     }
 }
 
@@ -250,14 +253,14 @@ fn leave(all: usize, due: usize, p: Place, out: &mut [u8]) -> Ask
 }
 
 // The digit is due.
-pub fn first(p: Place, out: &mut [u8]) -> Ask
+pub fn first(mode: Mode, p: Place, out: &mut [u8]) -> Ask
     requires { ⌜ p .at + 68 ≤ length (now out) ⌝ }
-    ensures { λ r. ⌜ ((buf : List ℕ) → IsStep (byPhase Digit p buf (now (out .entry))) r buf (now (out .exit))) ⌝ }
+    ensures { λ r. ⌜ ((buf : List ℕ) → IsStep (byPhase (Digit mode) p buf (now (out .entry))) r buf (now (out .exit))) ⌝ }
 {
     if p.last {
         return close(p, Phase::Over, Stopped::Refused(Refusal::UnknownKind), out);
     }
-    Ask::Read(moves(p, Phase::Digit, 0, 0, p.at, p.count), 0)
+    Ask::Read(moves(p, Phase::Digit(mode), 0, 0, p.at, p.count), 0)
 }
 
 // That the input is too long is told.
@@ -282,8 +285,8 @@ pub fn after(p: Place, out: &mut [u8]) -> Ask
         Phase::Ended(all, due) => leave(all, due, p, out),
         Phase::TooLong => tell_too_long(p, out),
         Phase::Over => Ask::Closed,
-        Phase::Digit => Ask::Closed,
-        Phase::Header(_) => Ask::Closed,
+        Phase::Digit(_) => Ask::Closed,
+        Phase::Header(_, _) => Ask::Closed,
         Phase::Records(_) => Ask::Closed,
     }
 }
@@ -318,8 +321,8 @@ fn arrive(p: Place, k: usize, buf: &[u8]) -> Place
     let from = p.from;
     let phase = p.phase;
     match phase {
-        Phase::Digit => grow(p, Phase::Header(digits::kind_of(buf[to])), to + 1, k),
-        Phase::Header(_) => grow(p, phase, from, k),
+        Phase::Digit(mode) => grow(p, Phase::Header(mode, digits::kind_of(buf[to])), to + 1, k),
+        Phase::Header(_, _) => grow(p, phase, from, k),
         Phase::Records(_) => grow(p, phase, from, k),
         Phase::Ended(_, _) => grow(p, phase, from, k),
         Phase::TooLong => grow(p, phase, from, k),

@@ -11,9 +11,10 @@ use lib.ListN.{length, drop}
 use Rattle.rules.specs.Rule.{Stop, refused, finished, moreBytes, Read, got, stops, read}
 use Rattle.rules.specs.Calls.{Answer, full, stopped, Reading}
 use Rattle.rules.proofs.Laws.{taken-within}
-use Rattle.metadata.specs.Metadata.{Header, openRule}
+use Rattle.metadata.specs.Metadata.{Header}
 use Rattle.chemstation.specs.Next.{rule}
-use Rattle.opening.specs.Opening.{begins}
+use Rattle.streams.specs.declared.Mode.{Mode}
+use Rattle.modes.specs.Modes.{openBy, beginsBy}
 use Rattle.streams.specs.declared.State.{State}
 use Rattle.streams.specs.declared.Record.{Record}
 use Rattle.sums.specs.declared.Total.{Total}
@@ -51,8 +52,8 @@ held-some : (a : ℕ) → eqb a 0 ≡ false → held a ≡ 1
 held-some a e = rw e refl
 
 rank-some : (ph : Phase) → 1 ≤ rank ph
-rank-some Digit = omega arith
-rank-some (HeaderOf kind) = omega arith
+rank-some (Digit mode) = omega arith
+rank-some (HeaderOf mode kind) = omega arith
 rank-some (Records st) = omega arith
 rank-some (Ended all due) = omega arith
 rank-some TooLong = omega arith
@@ -92,9 +93,9 @@ waits-before : (last : Bool) (most room : ℕ) (st : State) (bs : List ℕ) → 
 waits-before true most room st bs e = absurd (no-wait most room st bs e)
 waits-before false most room st bs e = refl
 
-read-before : (last : Bool) (kind : ℕ) (bs : List ℕ) → read last (openRule kind) bs ≡ stops moreBytes → last ≡ false
-read-before true kind bs e = absurd (never-waits (openRule kind) bs e)
-read-before false kind bs e = refl
+read-before : (last : Bool) (mode : Mode) (kind : ℕ) (bs : List ℕ) → read last (openBy mode kind) bs ≡ stops moreBytes → last ≡ false
+read-before true mode kind bs e = absurd (never-waits (openBy mode kind) bs e)
+read-before false mode kind bs e = refl
 
 or-not : (a b : Bool) → a || b ≡ false → b ≡ false
 or-not true b e = absurd (false≢true (sym e))
@@ -137,8 +138,8 @@ module _ (p : Place) (buf out : List ℕ) where
     after-down (Ended all due) e = leave-down all due (let r = ap rank e in omega (arith, r))
     after-down TooLong e = tell-down tooLongLine (let r = ap rank e in omega (arith, r)) (omega (arith, too-long-long, i .line))
     after-down Over e = tt
-    after-down Digit e = tt
-    after-down (HeaderOf kind) e = tt
+    after-down (Digit mode) e = tt
+    after-down (HeaderOf mode kind) e = tt
     after-down (Records st) e = tt
 
     once-down : Down (onceWritten p buf out)
@@ -205,9 +206,9 @@ module _ (p : Place) (st : State) (buf out : List ℕ) (low-bytes : p .from ≤ 
 
 -- ---- the header
 
-module _ (p : Place) (kind : ℕ) (buf out : List ℕ) (i : Inside p buf out) (at-header : rank (p .phase) ≡ 7) (room : 70 ≤ length out - p .at) (h : Header) (n : ℕ) (within : n ≤ p .to - p .from) where
+module _ (p : Place) (mode : Mode) (kind : ℕ) (buf out : List ℕ) (i : Inside p buf out) (at-header : rank (p .phase) ≡ 7) (room : 70 ≤ length out - p .at) (h : Header) (n : ℕ) (within : n ≤ p .to - p .from) where
   abbrev opened : Place
-  opened = totalled (movedTo p (Records (begins kind h)) (p .from + n) (p .to) (p .at + length (headerText h)) (p .count)) (firstTotal kind)
+  opened = totalled (movedTo p (Records (beginsBy mode kind h)) (p .from + n) (p .to) (p .at + length (headerText h)) (p .count)) (firstTotal kind)
 
   abbrev headed : List ℕ
   headed = putAt (p .at) (headerText h) out
@@ -216,36 +217,36 @@ module _ (p : Place) (kind : ℕ) (buf out : List ℕ) (i : Inside p buf out) (a
   headed-long = put-same (p .at) (headerText h) out (omega (arith, header-long h))
 
   -- no room for a line behind it
-  full-down : length headed - opened .at < 70 → Down p buf out (logsRecords (begins kind h) opened buf headed)
+  full-down : length headed - opened .at < 70 → Down p buf out (logsRecords (beginsBy mode kind h) opened buf headed)
   unfolding logsRecords linesOf
   full-down k =
-      subst (λ g. Down p buf out (behind opened (begins kind h) buf headed g)) (sym (no-room (length headed - opened .at) (length headed - opened .at) (p .last) (begins kind h) (atHand buf opened) k))
+      subst (λ g. Down p buf out (behind opened (beginsBy mode kind h) buf headed g)) (sym (no-room (length headed - opened .at) (length headed - opened .at) (p .last) (beginsBy mode kind h) (atHand buf opened) k))
       (by-test p buf out (ltb most (p .count + 0)) (writes (movedTo opened TooLong (p .from + n + 0) (p .to) (opened .at + 0) (p .count)) TooLong buf (putAt (opened .at) [] headed))
-      (writes (movedTo opened (Records (begins kind h)) (p .from + n + 0) (p .to) (opened .at + 0) (p .count + 0)) (Records (begins kind h)) buf (putAt (opened .at) [] headed))
+      (writes (movedTo opened (Records (beginsBy mode kind h)) (p .from + n + 0) (p .to) (opened .at + 0) (p .count + 0)) (Records (beginsBy mode kind h)) buf (putAt (opened .at) [] headed))
       (λ t. (less p TooLong (p .from + n + 0) (p .to) 0 (p .count) (omega arith), omega (arith, header-long h)))
-      (λ t. (less p (Records (begins kind h)) (p .from + n + 0) (p .to) 0 (p .count + 0) (omega arith), omega (arith, header-long h))))
+      (λ t. (less p (Records (beginsBy mode kind h)) (p .from + n + 0) (p .to) 0 (p .count + 0) (omega arith), omega (arith, header-long h))))
 
-  opened-down : Down p buf out (logsRecords (begins kind h) opened buf headed)
+  opened-down : Down p buf out (logsRecords (beginsBy mode kind h) opened buf headed)
   opened-down =
       by (ltb (length headed - opened .at) 70) (λ t. full-down (ltb-true _ _ t))
-      (λ t. falls-from p opened buf out headed (logsRecords (begins kind h) opened buf headed .answer) (low p (Records (begins kind h)) (p .from + n) (p .to) (p .at + length (headerText h)) (p .count) (omega (arith, held-low (p .at + length (headerText h))))) headed-long
-      (records-down opened (begins kind h) buf headed (omega (arith, i .low)) (i .filled) refl (ltb-false _ _ t)))
+      (λ t. falls-from p opened buf out headed (logsRecords (beginsBy mode kind h) opened buf headed .answer) (low p (Records (beginsBy mode kind h)) (p .from + n) (p .to) (p .at + length (headerText h)) (p .count) (omega (arith, held-low (p .at + length (headerText h))))) headed-long
+      (records-down opened (beginsBy mode kind h) buf headed (omega (arith, i .low)) (i .filled) refl (ltb-false _ _ t)))
 
-open-down : (p : Place) (kind : ℕ) (buf out : List ℕ) → Inside p buf out → rank (p .phase) ≡ 7 → 70 ≤ length out - p .at → (x : Read Header) → read (p .last) (openRule kind) (atHand buf p) ≡ x → Down p buf out (opens kind p buf out x)
-open-down p kind buf out i r room (got h n) e = opened-down p kind buf out i r room h n (omega (arith, taken-within (p .last) (openRule kind) (atHand buf p) e, hand-long p buf (i .low) (i .filled)))
-open-down p kind buf out i r room (stops (refused c)) e = close-down p buf out (refused c) (omega arith) room
-open-down p kind buf out i r room (stops finished) e = close-down p buf out finished (omega arith) room
-open-down p kind buf out i r room (stops moreBytes) e =
+open-down : (p : Place) (mode : Mode) (kind : ℕ) (buf out : List ℕ) → Inside p buf out → rank (p .phase) ≡ 7 → 70 ≤ length out - p .at → (x : Read Header) → read (p .last) (openBy mode kind) (atHand buf p) ≡ x → Down p buf out (opens mode kind p buf out x)
+open-down p mode kind buf out i r room (got h n) e = opened-down p mode kind buf out i r room h n (omega (arith, taken-within (p .last) (openBy mode kind) (atHand buf p) e, hand-long p buf (i .low) (i .filled)))
+open-down p mode kind buf out i r room (stops (refused c)) e = close-down p buf out (refused c) (omega arith) room
+open-down p mode kind buf out i r room (stops finished) e = close-down p buf out finished (omega arith) room
+open-down p mode kind buf out i r room (stops moreBytes) e =
     by-test p buf out (eqb (p .to - p .from) (length buf)) (closes p Over moreBytes buf out) (asks (movedTo p (p .phase) 0 (p .to - p .from) (p .at) (p .count)) (p .to - p .from) (atHand buf p ++ drop (p .to - p .from) buf) out) (λ t. close-down p buf out moreBytes (omega arith) room)
-    (λ t. (low p (p .phase) 0 (p .to - p .from) (p .at) (p .count) (omega arith), read-before (p .last) kind (atHand buf p) e, omega arith, (let d = eqb-false (p .to - p .from) (length buf) t in omega (arith, d, i .filled))))
+    (λ t. (low p (p .phase) 0 (p .to - p .from) (p .at) (p .count) (omega arith), read-before (p .last) mode kind (atHand buf p) e, omega arith, (let d = eqb-false (p .to - p .from) (length buf) t in omega (arith, d, i .filled))))
 
 -- ---- a step
 
 phase-down : (p : Place) (buf out : List ℕ) → Inside p buf out → 70 ≤ length out - p .at → (ph : Phase) → p .phase ≡ ph → Down p buf out (byPhase ph p buf out)
-phase-down p buf out i room Digit e =
+phase-down p buf out i room (Digit mode) e =
     let r = ap rank e in
-    by-test p buf out (p .last) (closes p Over (refused 1) buf out) (asks (movedTo p Digit 0 0 (p .at) (p .count)) 0 buf out) (λ t. close-down p buf out (refused 1) (omega (arith, r)) room) (λ t. (low p Digit 0 0 (p .at) (p .count) (omega (arith, r)), t, omega arith, i .some))
-phase-down p buf out i room (HeaderOf kind) e = open-down p kind buf out i (ap rank e) room (read (p .last) (openRule kind) (atHand buf p)) refl
+    by-test p buf out (p .last) (closes p Over (refused 1) buf out) (asks (movedTo p (Digit mode) 0 0 (p .at) (p .count)) 0 buf out) (λ t. close-down p buf out (refused 1) (omega (arith, r)) room) (λ t. (low p (Digit mode) 0 0 (p .at) (p .count) (omega (arith, r)), t, omega arith, i .some))
+phase-down p buf out i room (HeaderOf mode kind) e = open-down p mode kind buf out i (ap rank e) room (read (p .last) (openBy mode kind) (atHand buf p)) refl
 phase-down p buf out i room (Records st) e = records-down p st buf out (i .low) (i .filled) (ap rank e) room
 phase-down p buf out i room (Ended all due) e = once-down p buf out i
 phase-down p buf out i room TooLong e = once-down p buf out i
@@ -276,8 +277,8 @@ grown-less : (q : Place) (ph : Phase) (from k : ℕ) → 0 < k → q .came + k �
 grown-less q ph from k h m r l = omega arith
 
 came-less : (ph : Phase) (q : Place) (k : ℕ) (new : List ℕ) → q .phase ≡ ph → 0 < k → q .came + k ≤ most → weight (came ph q k new) < weight q
-came-less Digit q k new e h m = let r = ap rank e in omega (arith, r)
-came-less (HeaderOf kind) q k new e h m = grown-less q (q .phase) (q .from) k h m (omega arith) (omega arith)
+came-less (Digit mode) q k new e h m = let r = ap rank e in omega (arith, r)
+came-less (HeaderOf mode kind) q k new e h m = grown-less q (q .phase) (q .from) k h m (omega arith) (omega arith)
 came-less (Records st) q k new e h m = grown-less q (q .phase) (q .from) k h m (omega arith) (omega arith)
 came-less (Ended all due) q k new e h m = grown-less q (q .phase) (q .from) k h m (omega arith) (omega arith)
 came-less TooLong q k new e h m = grown-less q (q .phase) (q .from) k h m (omega arith) (omega arith)

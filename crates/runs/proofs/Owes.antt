@@ -13,8 +13,9 @@ use lib.Seq.{length-take-le, take-all, take-at, drop-at, take-take, drop-drop, t
 use Rattle.rules.specs.Rule.{Rule, Stop, refused, finished, moreBytes, Read, got, stops, read}
 use Rattle.rules.specs.Calls.{Item, Answer, full, stopped, Reading, nothing, ahead}
 use Rattle.rules.proofs.Laws.{got≢stops, taken-within}
-use Rattle.metadata.specs.Metadata.{Header, openRule}
-use Rattle.opening.specs.Opening.{begins}
+use Rattle.metadata.specs.Metadata.{Header}
+use Rattle.streams.specs.declared.Mode.{Mode}
+use Rattle.modes.specs.Modes.{openBy, beginsBy}
 use Rattle.chemstation.specs.Next.{rule}
 use Rattle.streams.specs.Next.{unscaledOf}
 use Rattle.streams.specs.declared.State.{State}
@@ -112,8 +113,8 @@ pub record Kept (size : ℕ) (p : Place) (buf out input : List ℕ) : Type 0 whe
 
 -- behind what stands in the output buffer
 abbrev pub Owed : ℕ → Phase → ℕ → Total → List ℕ → List ℕ → List ℕ → Type 0
-Owed size Digit count t hand input v = (count ≡ 0) × (t ≡ Absent) × LogOfInput size input v
-Owed size (HeaderOf kind) count t hand input v = (count ≡ 0) × (t ≡ Absent) × (z : Stop) × LogOf size kind (hand ++ input) z v
+Owed size (Digit mode) count t hand input v = (count ≡ 0) × (t ≡ Absent) × LogOfInput mode size input v
+Owed size (HeaderOf mode kind) count t hand input v = (count ≡ 0) × (t ≡ Absent) × (z : Stop) × LogOf mode size kind (hand ++ input) z v
 Owed size (Records st) count t hand input v = (z : Stop) × RestOf size st (hand ++ input) count t z v
 Owed size (Ended all due) count t hand input v = v ≡ []
 Owed size TooLong count t hand input v = ⊥
@@ -352,34 +353,34 @@ module _ (size : ℕ) (input u : List ℕ) where
   unsummed : (z : Stop) {t : Total} {n : ℕ} → t ≡ Absent → n ≡ 0 → endLine z 0 ≡ totalLine t ++ endLine z n
   unsummed z a c = ap₂ (λ t n. totalLine t ++ endLine z n) (sym a) (sym c)
 
-  header-on : (kind : ℕ) (p : Place) (buf out rest : List ℕ) (z : Stop) → Owes size p buf out input u → p .phase ≡ HeaderOf kind → p .count ≡ 0 → p .total ≡ Absent → u ≡ take (p .at) out ++ rest → LogOf size kind (atHand buf p ++ input) z rest →
-      (x : Read Header) → read (p .last) (openRule kind) (atHand buf p) ≡ x → Continues size (opens kind p buf out x .answer) (opens kind p buf out x .buf) (opens kind p buf out x .out) input u
-  header-on kind p buf out rest z o ph c a e l (got h n) r =
+  header-on : (mode : Mode) (kind : ℕ) (p : Place) (buf out rest : List ℕ) (z : Stop) → Owes size p buf out input u → p .phase ≡ HeaderOf mode kind → p .count ≡ 0 → p .total ≡ Absent → u ≡ take (p .at) out ++ rest → LogOf mode size kind (atHand buf p ++ input) z rest →
+      (x : Read Header) → read (p .last) (openBy mode kind) (atHand buf p) ≡ x → Continues size (opens mode kind p buf out x .answer) (opens mode kind p buf out x .buf) (opens mode kind p buf out x .out) input u
+  header-on mode kind p buf out rest z o ph c a e l (got h n) r =
       let k = o .kept in
       let i = k .inside in
-      let within = taken-within (p .last) (openRule kind) (atHand buf p) r in
+      let within = taken-within (p .last) (openBy mode kind) (atHand buf p) r in
       let hand = hand-long p buf (i .low) (i .filled) in
-      let s = log-step h n l (in-buffer (p .last) size (openRule kind) (atHand buf p) input (got h n) (k .held) r (λ q. got≢stops q)) in
+      let s = log-step h n l (in-buffer (p .last) size (openBy mode kind) (atHand buf p) input (got h n) (k .held) r (λ q. got≢stops q)) in
       let left = hand-after p buf n (i .low) (i .filled) (omega arith) in
-      let q = movedTo p (Records (begins kind h)) (p .from + n) (p .to) (p .at + length (headerText h)) (p .count) in
+      let q = movedTo p (Records (beginsBy mode kind h)) (p .from + n) (p .to) (p .at + length (headerText h)) (p .count) in
       let v = linesOf (s .0) ++ footText (firstTotal kind) (s .0) z (length (s .0)) in
       let kept : Kept size q buf (putAt (p .at) (headerText h) out) input =
-      subst (λ m. Kept size (movedTo p (Records (begins kind h)) (p .from + n) (p .to) (p .at + length (headerText h)) m) buf (putAt (p .at) (headerText h) out) input) (add-zero (p .count)) (kept-on size input u p buf out (headerText h) n 0 (Records (begins kind h)) k (omega arith) (omega (arith, k .few))) in
+      subst (λ m. Kept size (movedTo p (Records (beginsBy mode kind h)) (p .from + n) (p .to) (p .at + length (headerText h)) m) buf (putAt (p .at) (headerText h) out) input) (add-zero (p .count)) (kept-on size input u p buf out (headerText h) n 0 (Records (beginsBy mode kind h)) k (omega arith) (omega (arith, k .few))) in
       let behind = drop-append-le n (atHand buf p) input within ∙ ap (λ b. b ++ input) (sym left) in
       let many : length (s .0) ≡ p .count + length (s .0) = omega (arith, c) in
-      records-on size input u (begins kind h) (totalled q (firstTotal kind)) buf (putAt (p .at) (headerText h) out) v z (kept-total size input u (firstTotal kind) kept)
+      records-on size input u (beginsBy mode kind h) (totalled q (firstTotal kind)) buf (putAt (p .at) (headerText h) out) v z (kept-total size input u (firstTotal kind) kept)
       (e ∙ ap (λ v. take (p .at) out ++ v) (s .1) ∙ sym (append-assoc (take (p .at) out) (headerText h) v) ∙ ap (λ w. w ++ v) (sym (take-put (p .at) (headerText h) out (i .room))))
-      record { records = s .0; reads = subst (λ b. Reads size (begins kind h) b (s .0) z) behind (s .2); text = ap (λ m. linesOf (s .0) ++ footText (firstTotal kind) (s .0) z m) many }
-  header-on kind p buf out rest z o ph c a e l (stops moreBytes) r =
-      let b = not-last (p .last) (openRule kind) (atHand buf p) r in
+      record { records = s .0; reads = subst (λ b. Reads size (beginsBy mode kind h) b (s .0) z) behind (s .2); text = ap (λ m. linesOf (s .0) ++ footText (firstTotal kind) (s .0) z m) many }
+  header-on mode kind p buf out rest z o ph c a e l (stops moreBytes) r =
+      let b = not-last (p .last) (openBy mode kind) (atHand buf p) r in
       refill-on size input u p buf out o b
-      (λ h v w. let d : Owed size (HeaderOf kind) (p .count) (p .total) (atHand buf p) input v = subst (λ x. Owed size x (p .count) (p .total) (atHand buf p) input v) ph w in
-      log-stop moreBytes (d .3) (full-waits size (openRule kind) (atHand buf p) input h (subst (λ b. read b (openRule kind) (atHand buf p) ≡ stops moreBytes) b r)) ∙ unsummed moreBytes a c)
-  header-on kind p buf out rest z o ph c a e l (stops (refused y)) r =
-      let s = log-stop (refused y) l (in-buffer (p .last) size (openRule kind) (atHand buf p) input (stops (refused y)) (o .kept .held) r (stops-so (refused y) (λ x. false≢true cc))) in
+      (λ h v w. let d : Owed size (HeaderOf mode kind) (p .count) (p .total) (atHand buf p) input v = subst (λ x. Owed size x (p .count) (p .total) (atHand buf p) input v) ph w in
+      log-stop moreBytes (d .3) (full-waits size (openBy mode kind) (atHand buf p) input h (subst (λ b. read b (openBy mode kind) (atHand buf p) ≡ stops moreBytes) b r)) ∙ unsummed moreBytes a c)
+  header-on mode kind p buf out rest z o ph c a e l (stops (refused y)) r =
+      let s = log-stop (refused y) l (in-buffer (p .last) size (openBy mode kind) (atHand buf p) input (stops (refused y)) (o .kept .held) r (stops-so (refused y) (λ x. false≢true cc))) in
       close-on size input u p Over (refused y) buf out (o .kept) (e ∙ ap (λ v. take (p .at) out ++ v) (s ∙ unsummed (refused y) a c)) refl
-  header-on kind p buf out rest z o ph c a e l (stops finished) r =
-      let s = log-stop finished l (in-buffer (p .last) size (openRule kind) (atHand buf p) input (stops finished) (o .kept .held) r (stops-so finished (λ x. false≢true cc))) in
+  header-on mode kind p buf out rest z o ph c a e l (stops finished) r =
+      let s = log-stop finished l (in-buffer (p .last) size (openBy mode kind) (atHand buf p) input (stops finished) (o .kept .held) r (stops-so finished (λ x. false≢true cc))) in
       close-on size input u p Over finished buf out (o .kept) (e ∙ ap (λ v. take (p .at) out ++ v) (s ∙ unsummed finished a c)) refl
 
   -- nothing at hand, and a read is due
@@ -394,17 +395,17 @@ module _ (size : ℕ) (input u : List ℕ) where
         few = omega (arith, k .few);
       }
 
-  no-digit-so : (f : List ℕ) (v : List ℕ) → f ≡ [] → LogOfInput size f v → v ≡ endLine (refused 1) 0
+  no-digit-so : {mode : Mode} (f : List ℕ) (v : List ℕ) → f ≡ [] → LogOfInput mode size f v → v ≡ endLine (refused 1) 0
   no-digit-so f v e no-digit = refl
   no-digit-so f v e (a-digit l) = absurd (false≢true cc)
 
-  digit-on : (p : Place) (buf out : List ℕ) (o : Owes size p buf out input u) → p .phase ≡ Digit → Continues size (byPhase Digit p buf out .answer) (byPhase Digit p buf out .buf) (byPhase Digit p buf out .out) input u
-  digit-on p buf out o ph =
-      let d : Owed size Digit (p .count) (p .total) (atHand buf p) input (o .rest) = subst (λ x. Owed size x (p .count) (p .total) (atHand buf p) input (o .rest)) ph (o .owed) in
+  digit-on : (mode : Mode) (p : Place) (buf out : List ℕ) (o : Owes size p buf out input u) → p .phase ≡ Digit mode → Continues size (byPhase (Digit mode) p buf out .answer) (byPhase (Digit mode) p buf out .buf) (byPhase (Digit mode) p buf out .out) input u
+  digit-on mode p buf out o ph =
+      let d : Owed size (Digit mode) (p .count) (p .total) (atHand buf p) input (o .rest) = subst (λ x. Owed size x (p .count) (p .total) (atHand buf p) input (o .rest)) ph (o .owed) in
       let k = o .kept in
       cond-on size input u (p .last) _ _
       (λ b. close-on size input u p Over (refused 1) buf out k (o .text ∙ ap (λ v. take (p .at) out ++ v) (no-digit-so input (o .rest) (k .held .told b .0) (d .2) ∙ unsummed (refused 1) (d .1) (d .0))) refl)
-      (λ b. (record { kept = emptied p Digit (p .at) buf out k (k .inside .room); rest = o .rest; text = o .text; owed = d }, refl, b, omega (arith, k .whole, k .inside .some)))
+      (λ b. (record { kept = emptied p (Digit mode) (p .at) buf out k (k .inside .room); rest = o .rest; text = o .text; owed = d }, refl, b, omega (arith, k .whole, k .inside .some)))
 
   or-false : (a b : Bool) → a || b ≡ false → b ≡ false
   or-false true b e = absurd (false≢true (sym e))
@@ -438,10 +439,10 @@ module _ (size : ℕ) (input u : List ℕ) where
       (λ b. write-on size input u p buf out o)
 
   phase-on : (phase : Phase) (p : Place) (buf out : List ℕ) (o : Owes size p buf out input u) → p .phase ≡ phase → Continues size (byPhase phase p buf out .answer) (byPhase phase p buf out .buf) (byPhase phase p buf out .out) input u
-  phase-on Digit p buf out o e = digit-on p buf out o e
-  phase-on (HeaderOf kind) p buf out o e =
-      let d : Owed size (HeaderOf kind) (p .count) (p .total) (atHand buf p) input (o .rest) = subst (λ x. Owed size x (p .count) (p .total) (atHand buf p) input (o .rest)) e (o .owed) in
-      header-on kind p buf out (o .rest) (d .2) o e (d .0) (d .1) (o .text) (d .3) (read (p .last) (openRule kind) (atHand buf p)) refl
+  phase-on (Digit mode) p buf out o e = digit-on mode p buf out o e
+  phase-on (HeaderOf mode kind) p buf out o e =
+      let d : Owed size (HeaderOf mode kind) (p .count) (p .total) (atHand buf p) input (o .rest) = subst (λ x. Owed size x (p .count) (p .total) (atHand buf p) input (o .rest)) e (o .owed) in
+      header-on mode kind p buf out (o .rest) (d .2) o e (d .0) (d .1) (o .text) (d .3) (read (p .last) (openBy mode kind) (atHand buf p)) refl
   phase-on (Records st) p buf out o e =
       let d : Owed size (Records st) (p .count) (p .total) (atHand buf p) input (o .rest) = subst (λ x. Owed size x (p .count) (p .total) (atHand buf p) input (o .rest)) e (o .owed) in
       records-on size input u st p buf out (o .rest) (d .0) (o .kept) (o .text) (d .1)
@@ -465,7 +466,7 @@ module _ (size : ℕ) (input u : List ℕ) where
 
 -- ---- a part of the input comes
 
-digit-log : {size : ℕ} (x : ℕ) (F v : List ℕ) → LogOfInput size (x ∷ F) v → (z : Stop) × LogOf size (kindOf x) F z v
+digit-log : {mode : Mode} {size : ℕ} (x : ℕ) (F v : List ℕ) → LogOfInput mode size (x ∷ F) v → (z : Stop) × LogOf mode size (kindOf x) F z v
 digit-log x F v (a-digit {z = z} l) = (z, l)
 
 -- the bytes at hand, as the part of those that have come
@@ -522,10 +523,10 @@ module _ (size : ℕ) (q : Place) (buf out part rest new u : List ℕ) (o : Owes
   joined = sym (append-assoc (atHand buf q) part rest)
 
   -- the first byte is the digit
-  digit-comes : Owed size Digit (q .count) (q .total) (atHand buf q) (part ++ rest) (o .rest) → 0 < length part → Owes size (came Digit q (length part) new) new out rest u
-  digit-comes d h = go part refl (d .2)
+  digit-comes : (mode : Mode) → Owed size (Digit mode) (q .count) (q .total) (atHand buf q) (part ++ rest) (o .rest) → 0 < length part → Owes size (came (Digit mode) q (length part) new) new out rest u
+  digit-comes mode d h = go part refl (d .2)
     where
-      go : (b : List ℕ) → part ≡ b → LogOfInput size (part ++ rest) (o .rest) → Owes size (came Digit q (length part) new) new out rest u
+      go : (b : List ℕ) → part ≡ b → LogOfInput mode size (part ++ rest) (o .rest) → Owes size (came (Digit mode) q (length part) new) new out rest u
       go [] e log = absurd (omega (arith, ap length e))
       go (x ∷ xs) e log =
           let here : take (length part) (drop (q .to) new) ≡ part =
@@ -542,15 +543,15 @@ module _ (size : ℕ) (q : Place) (buf out part rest new u : List ℕ) (o : Owes
           ap₂ take (let m : q .to + length part - (q .to + 1) ≡ length part - 1 = omega arith in m) (sym (drop-drop 1 (q .to) new))
           ∙ sym (drop-take 1 (length part) (drop (q .to) new) (omega (arith, h)) (omega (arith, length-drop (q .to) new, i .filled)))
           ∙ ap (drop 1) (here ∙ e) in
-          let log′ : LogOfInput size (x ∷ (xs ++ rest)) (o .rest) = subst (λ b. LogOfInput size (b ++ rest) (o .rest)) e log in
-          grown-on (HeaderOf (kindOf (getD new (q .to) 0))) (q .to + 1) xs (omega (arith, h)) (omega (arith, d .0, h)) others
-          (let w = digit-log x (xs ++ rest) (o .rest) log′ in (d .0, d .1, w .0, subst (λ y. LogOf size (kindOf y) (xs ++ rest) (w .0) (o .rest)) (sym first) (w .1)))
+          let log′ : LogOfInput mode size (x ∷ (xs ++ rest)) (o .rest) = subst (λ b. LogOfInput mode size (b ++ rest) (o .rest)) e log in
+          grown-on (HeaderOf mode (kindOf (getD new (q .to) 0))) (q .to + 1) xs (omega (arith, h)) (omega (arith, d .0, h)) others
+          (let w = digit-log x (xs ++ rest) (o .rest) log′ in (d .0, d .1, w .0, subst (λ y. LogOf mode size (kindOf y) (xs ++ rest) (w .0) (o .rest)) (sym first) (w .1)))
 
   came-on : (phase : Phase) → q .phase ≡ phase → 0 < length part → Owes size (came phase q (length part) new) new out rest u
-  came-on Digit e h = digit-comes (subst (λ x. Owed size x (q .count) (q .total) (atHand buf q) (part ++ rest) (o .rest)) e (o .owed)) h
-  came-on (HeaderOf kind) e h =
-      let d : Owed size (HeaderOf kind) (q .count) (q .total) (atHand buf q) (part ++ rest) (o .rest) = subst (λ x. Owed size x (q .count) (q .total) (atHand buf q) (part ++ rest) (o .rest)) e (o .owed) in
-      more-on (q .phase) (subst (λ x. Owed size x (q .count) (q .total) (atHand buf q ++ part) rest (o .rest)) (sym e) (d .0, d .1, d .2, subst (λ b. LogOf size kind b (d .2) (o .rest)) joined (d .3)))
+  came-on (Digit mode) e h = digit-comes mode (subst (λ x. Owed size x (q .count) (q .total) (atHand buf q) (part ++ rest) (o .rest)) e (o .owed)) h
+  came-on (HeaderOf mode kind) e h =
+      let d : Owed size (HeaderOf mode kind) (q .count) (q .total) (atHand buf q) (part ++ rest) (o .rest) = subst (λ x. Owed size x (q .count) (q .total) (atHand buf q) (part ++ rest) (o .rest)) e (o .owed) in
+      more-on (q .phase) (subst (λ x. Owed size x (q .count) (q .total) (atHand buf q ++ part) rest (o .rest)) (sym e) (d .0, d .1, d .2, subst (λ b. LogOf mode size kind b (d .2) (o .rest)) joined (d .3)))
   came-on (Records st) e h =
       let d : Owed size (Records st) (q .count) (q .total) (atHand buf q) (part ++ rest) (o .rest) = subst (λ x. Owed size x (q .count) (q .total) (atHand buf q) (part ++ rest) (o .rest)) e (o .owed) in
       more-on (q .phase) (subst (λ x. Owed size x (q .count) (q .total) (atHand buf q ++ part) rest (o .rest)) (sym e) (d .0, subst (λ b. RestOf size st b (q .count) (q .total) (d .0) (o .rest)) joined (d .1)))
@@ -614,8 +615,8 @@ follows size {p} {buf} {out} u o (taken q n part rest new e fit none same stands
     let long : length (stepOf p buf out .buf) ≡ length buf = c .0 .kept .whole ∙ sym (o .kept .whole) in
     follows size u (took-on size q (stepOf p buf out .buf) (stepOf p buf out .out) part rest new u (c .0) (c .2) (omega (arith, c .1)) (same ∙ sym long) (ap (λ m. take (m + length part) new) (c .1) ∙ stands ∙ ap (λ m. take m (stepOf p buf out .buf) ++ part) (sym (c .1))) none (omega (arith, c .1, c .3, o .kept .whole))) w
 
-start-owes : (buf out input u : List ℕ) → 1 ≤ length buf → 128 ≤ length out → length input ≤ most → LogOfInput (length buf) input u → Owes (length buf) started buf out input u
-start-owes buf out input u some line fit log = record {
+start-owes : (mode : Mode) (buf out input u : List ℕ) → 1 ≤ length buf → 128 ≤ length out → length input ≤ most → LogOfInput mode (length buf) input u → Owes (length buf) (started mode) buf out input u
+start-owes mode buf out input u some line fit log = record {
   kept = record {
     whole = refl;
     inside = record { low = omega arith; filled = omega arith; room = omega arith; some = some; line = line };
@@ -628,11 +629,11 @@ start-owes buf out input u some line fit log = record {
   owed = (refl, refl, log);
 }
 
-log-there : (size : ℕ) (input : List ℕ) → (u : List ℕ) × LogOfInput size input u
-log-there size [] = (endLine (refused 1) 0, no-digit)
-log-there size (x ∷ F) = let l = one-log .there size (kindOf x) F in (l .1, a-digit (l .2))
+log-there : (mode : Mode) (size : ℕ) (input : List ℕ) → (u : List ℕ) × LogOfInput mode size input u
+log-there mode size [] = (endLine (refused 1) 0, no-digit)
+log-there mode size (x ∷ F) = let l = one-log .there mode size (kindOf x) F in (l .1, a-digit (l .2))
 
-pub writes-log : (buf out input t : List ℕ) → 1 ≤ length buf → 128 ≤ length out → length input ≤ most → Writes started buf out input t → LogOfInput (length buf) input t
-writes-log buf out input t some line fit w =
-    let l = log-there (length buf) input in
-    subst (LogOfInput (length buf) input) (sym (follows (length buf) (l .0) (start-owes buf out input (l .0) some line fit (l .1)) w)) (l .1)
+pub writes-log : (mode : Mode) (buf out input t : List ℕ) → 1 ≤ length buf → 128 ≤ length out → length input ≤ most → Writes (started mode) buf out input t → LogOfInput mode (length buf) input t
+writes-log mode buf out input t some line fit w =
+    let l = log-there mode (length buf) input in
+    subst (LogOfInput mode (length buf) input) (sym (follows (length buf) (l .0) (start-owes mode buf out input (l .0) some line fit (l .1)) w)) (l .1)

@@ -11,10 +11,11 @@ use lib.Seq.{length-take-le, take-append-seam}
 use Rattle.rules.specs.Rule.{Stop, refused, finished, moreBytes, Read, got, stops, read}
 use Rattle.rules.specs.Calls.{Answer, full, stopped, Reading}
 use Rattle.rules.proofs.Laws.{taken-within}
-use Rattle.metadata.specs.Metadata.{Header, openRule}
+use Rattle.metadata.specs.Metadata.{Header}
 use Rattle.streams.specs.declared.State.{State}
 use Rattle.streams.specs.declared.Record.{Record}
-use Rattle.opening.specs.Opening.{begins}
+use Rattle.streams.specs.declared.Mode.{Mode}
+use Rattle.modes.specs.Modes.{openBy, beginsBy}
 use Rattle.log.specs.Log.{headerText, firstTotal}
 use Rattle.sums.specs.Sums.{totalFrom}
 use Rattle.log.specs.Runs.{linesOf, unscaled, logged}
@@ -59,14 +60,14 @@ logs-long st p buf out low filled =
     let inside : p .from + g .consumed ≤ p .to = omega (arith, read-inside room room (p .last) st (atHand buf p), hand-long p buf low filled) in
     by (ltb most count) (λ t. rw t refl) (λ t. rw t (goes-long next (g .state) (g .closing) buf (putAt (p .at) (linesOf (g .records)) out) inside filled))
 
-opens-long : (kind : ℕ) (p : Place) (buf out : List ℕ) → p .from ≤ p .to → p .to ≤ length buf → (x : Read Header) → read (p .last) (openRule kind) (atHand buf p) ≡ x → Long (length buf) (opens kind p buf out x)
-opens-long kind p buf out low filled (got h n) e =
-    let opened : Place = totalled (movedTo p (Records (begins kind h)) (p .from + n) (p .to) (p .at + length (headerText h)) (p .count)) (firstTotal kind) in
-    let inside : p .from + n ≤ p .to = omega (arith, taken-within (p .last) (openRule kind) (atHand buf p) e, hand-long p buf low filled) in
-    logs-long (begins kind h) opened buf (putAt (p .at) (headerText h) out) inside filled
-opens-long kind p buf out low filled (stops moreBytes) e = refills-long p buf out low filled
-opens-long kind p buf out low filled (stops (refused c)) e = refl
-opens-long kind p buf out low filled (stops finished) e = refl
+opens-long : (mode : Mode) (kind : ℕ) (p : Place) (buf out : List ℕ) → p .from ≤ p .to → p .to ≤ length buf → (x : Read Header) → read (p .last) (openBy mode kind) (atHand buf p) ≡ x → Long (length buf) (opens mode kind p buf out x)
+opens-long mode kind p buf out low filled (got h n) e =
+    let opened : Place = totalled (movedTo p (Records (beginsBy mode kind h)) (p .from + n) (p .to) (p .at + length (headerText h)) (p .count)) (firstTotal kind) in
+    let inside : p .from + n ≤ p .to = omega (arith, taken-within (p .last) (openBy mode kind) (atHand buf p) e, hand-long p buf low filled) in
+    logs-long (beginsBy mode kind h) opened buf (putAt (p .at) (headerText h) out) inside filled
+opens-long mode kind p buf out low filled (stops moreBytes) e = refills-long p buf out low filled
+opens-long mode kind p buf out low filled (stops (refused c)) e = refl
+opens-long mode kind p buf out low filled (stops finished) e = refl
 
 after-long : (ph : Phase) (p : Place) (buf out : List ℕ) → Long (length buf) (afterwards ph p buf out)
 after-long (Ended all due) p buf out =
@@ -74,16 +75,16 @@ after-long (Ended all due) p buf out =
     by (ltb due hand || p .last) (λ t. rw t (by (eqb (all - (due - hand)) 0 && eqb (hand - due) 0) (λ u. rw u refl) (λ u. rw u refl))) (λ t. rw t refl)
 after-long TooLong p buf out = refl
 after-long Over p buf out = refl
-after-long Digit p buf out = refl
-after-long (HeaderOf kind) p buf out = refl
+after-long (Digit mode) p buf out = refl
+after-long (HeaderOf mode kind) p buf out = refl
 after-long (Records st) p buf out = refl
 
 once-long : (p : Place) (buf out : List ℕ) → Long (length buf) (onceWritten p buf out)
 once-long p buf out = by (eqb (p .at) 0) (λ t. rw t (after-long (p .phase) p buf out)) (λ t. rw t refl)
 
 phase-long : (ph : Phase) (p : Place) (buf out : List ℕ) → Inside p buf out → Long (length buf) (byPhase ph p buf out)
-phase-long Digit p buf out i = by (p .last) (λ t. rw t refl) (λ t. rw t refl)
-phase-long (HeaderOf kind) p buf out i = opens-long kind p buf out (i .low) (i .filled) (read (p .last) (openRule kind) (atHand buf p)) refl
+phase-long (Digit mode) p buf out i = by (p .last) (λ t. rw t refl) (λ t. rw t refl)
+phase-long (HeaderOf mode kind) p buf out i = opens-long mode kind p buf out (i .low) (i .filled) (read (p .last) (openBy mode kind) (atHand buf p)) refl
 phase-long (Records st) p buf out i = logs-long st p buf out (i .low) (i .filled)
 phase-long (Ended all due) p buf out i = once-long p buf out
 phase-long TooLong p buf out i = once-long p buf out
@@ -145,9 +146,9 @@ by-answer p buf out input (each-ends w t r f) (ask.Read q n) e =
 
 -- ---- no digit
 
-pub empty-log : (size : ℕ) (t : List ℕ) → LogOfInput size [] t → t ≡ ascii "e 1 0\n"
+pub empty-log : (mode : Mode) (size : ℕ) (t : List ℕ) → LogOfInput mode size [] t → t ≡ ascii "e 1 0\n"
 unfolding answerText decimal
-empty-log size t no-digit = refl
+empty-log mode size t no-digit = refl
 
 -- ---- the theorem
 

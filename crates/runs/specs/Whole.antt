@@ -6,6 +6,7 @@ use mathlib.Core.List.{List, [], _∷_, _++_}
 use lib.Dec.{eqb}
 use lib.ListN.{length, take}
 use Rattle.rules.specs.Rule.{Stop, refused}
+use Rattle.streams.specs.declared.Mode.{Mode}
 use Rattle.digits.specs.Numbers.{kindOf}
 use Rattle.lines.specs.Lines.{endLine}
 use Rattle.lines.specs.Left.{ascii}
@@ -17,10 +18,10 @@ use Rattle.places.specs.declared.Ask.{Ask}
 use Rattle.places.specs.declared.Ask.the-variants as ask
 use Rattle.places.specs.Machine.{most, started, over, stepOf, tookOf, wroteOf}
 
--- 'Standard input: one kind digit, then the file'; 'No digit: `e 1 0`'
-pub data LogOfInput (size : ℕ) : List ℕ → List ℕ → Type 0 where
-  no-digit : LogOfInput size [] (endLine (refused 1) 0)
-  a-digit : {digit : ℕ} {F : List ℕ} {z : Stop} {t : List ℕ} → LogOf size (kindOf digit) F z t → LogOfInput size (digit ∷ F) t
+-- by the reading of the program: 'Standard input: one kind digit, then the file'; 'No digit: `e 1 0`'
+pub data LogOfInput (mode : Mode) (size : ℕ) : List ℕ → List ℕ → Type 0 where
+  no-digit : LogOfInput mode size [] (endLine (refused 1) 0)
+  a-digit : {digit : ℕ} {F : List ℕ} {z : Stop} {t : List ℕ} → LogOf mode size (kindOf digit) F z t → LogOfInput mode size (digit ∷ F) t
 
 -- ---- a run
 
@@ -38,8 +39,8 @@ pub data Writes : Place → List ℕ → List ℕ → List ℕ → List ℕ → 
 
 -- what is done before what
 abbrev pub rank : Phase → ℕ
-rank Digit = 9
-rank (Header kind) = 7
+rank (Digit mode) = 9
+rank (Header mode kind) = 7
 rank (Records st) = 4
 rank (Ended all due) = 3
 rank TooLong = 2
@@ -66,12 +67,12 @@ pub data Ends : Place → List ℕ → List ℕ → List ℕ → Type 0 where
 -- ---- the theorem
 
 pub record WholeRuns : Type 0 where
-  -- for every input of fewer than 2^64 bytes, however it comes
-  pub log : (buf out input t : List ℕ) → 1 ≤ length buf → 128 ≤ length out → length input ≤ most → Writes started buf out input t → LogOfInput (length buf) input t
+  -- for either reading and every input of fewer than 2^64 bytes, however it comes
+  pub log : (mode : Mode) (buf out input t : List ℕ) → 1 ≤ length buf → 128 ≤ length out → length input ≤ most → Writes (started mode) buf out input t → LogOfInput mode (length buf) input t
   -- of an input without a digit it is these bytes
-  pub empty : (size : ℕ) (t : List ℕ) → LogOfInput size [] t → t ≡ ascii "e 1 0\n"
+  pub empty : (mode : Mode) (size : ℕ) (t : List ℕ) → LogOfInput mode size [] t → t ≡ ascii "e 1 0\n"
   -- and there is such a run, whatever the input
-  pub there : (buf out input : List ℕ) → (t : List ℕ) × Writes started buf out input t
+  pub there : (mode : Mode) (buf out input : List ℕ) → (t : List ℕ) × Writes (started mode) buf out input t
   -- each step asks for what lies in the buffers, and lowers the measure
   pub falls : (p : Place) (buf out : List ℕ) → Falls p buf out (stepOf p buf out .answer)
   pub ends : (p : Place) (buf out input : List ℕ) → Ends p buf out input

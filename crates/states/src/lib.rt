@@ -1,4 +1,4 @@
-// A state as numbers that a caller keeps, six doubles, four counts and a stored time, and the numbers as a state.
+// A state as numbers that a caller keeps, six doubles, four counts, a stored time and the reading, and the numbers as a state.
 use streams::Bytes;
 use streams::ChemstationArrayRecordType;
 use streams::ChemstationArrayState;
@@ -10,14 +10,35 @@ use streams::ChemstationUvState;
 use streams::Points;
 use streams::Scans;
 use streams::State;
+use streams::atlas_of;
 ghost use mathlib.Core.Path.{_≡_};
 ghost use Rattle.streams.specs.Next.{storedOf};
-ghost use Rattle.states.specs.State.{numbersOf, typeNumber, countsOf, typeAt, fidFrom, msFrom, mwdFrom, dadFrom, uvFrom, arrayFrom, stateOf, KeepsStates};
+ghost use Rattle.states.specs.State.{dadNumbers, uvNumbers, dadCounts, uvCounts, numbersOf, typeNumber, countsOf, readingOf, typeAt, fidFrom, msFrom, mwdFrom, dadFrom, uvFrom, arrayFrom, stateOf, atlasState, atlasKept, stateBy, KeepsStates};
 
 // What the numbers hold.
 pub enum Kept {
     State(State),
     NoKind,
+}
+
+// The numbers of DAD and UV are the same under either reading.
+fn dad_numbers(d: ChemstationDadState) -> [f64; 6]
+    ensures { λ r. ⌜ r ≡ dadNumbers d ⌝ }
+{
+    [d.cur_time, d.cur_intensity, d.cur_wv, d.wv_step, 0.0, 0.0]
+}
+
+fn uv_numbers(u: ChemstationUvState) -> [f64; 6]
+    ensures { λ r. ⌜ r ≡ uvNumbers u ⌝ }
+{
+    [
+        u.cur_time,
+        u.cur_intensity,
+        u.cur_wv,
+        u.wv_step,
+        u.mult_correction,
+        0.0,
+    ]
 }
 
 // Time, intensity, slope or wavelength, step, multiplier, offset; 0 where the kind has no such number.
@@ -42,15 +63,8 @@ pub fn numbers_of(st: State) -> [f64; 6]
             m.mult_correction,
             m.offset_correction,
         ],
-        State::Dad(d) => [d.cur_time, d.cur_intensity, d.cur_wv, d.wv_step, 0.0, 0.0],
-        State::Uv(u) => [
-            u.cur_time,
-            u.cur_intensity,
-            u.cur_wv,
-            u.wv_step,
-            u.mult_correction,
-            0.0,
-        ],
+        State::Dad(d) => dad_numbers(d),
+        State::Uv(u) => uv_numbers(u),
         State::Array(a) => [
             a.cur_time,
             a.cur_intensity,
@@ -59,6 +73,8 @@ pub fn numbers_of(st: State) -> [f64; 6]
             a.mult_correction,
             0.0,
         ],
+        State::AtlasDad(d) => dad_numbers(d),
+        State::AtlasUv(u) => uv_numbers(u),
     }
 }
 
@@ -69,6 +85,22 @@ fn type_number(t: ChemstationArrayRecordType) -> usize
         ChemstationArrayRecordType::Float32Array => 0,
         ChemstationArrayRecordType::Float64Array => 1,
     }
+}
+
+fn dad_counts(d: ChemstationDadState) -> [usize; 4]
+    ensures { λ r. ⌜ r ≡ dadCounts d ⌝ }
+{
+    let scans = d.n_scans_left.0;
+    let bytes = d.n_bytes_left.0;
+    [4, scans, bytes, 0]
+}
+
+fn uv_counts(u: ChemstationUvState) -> [usize; 4]
+    ensures { λ r. ⌜ r ≡ uvCounts u ⌝ }
+{
+    let scans = u.n_scans_left.0;
+    let points = u.n_wvs_left.0;
+    [5, scans, points, 0]
 }
 
 // Kind, scans due, points or bytes due, record type; 0 where the kind has no such count.
@@ -86,21 +118,15 @@ pub fn counts_of(st: State) -> [usize; 4]
             let points = m.n_wvs_left.0;
             [3, 0, points, 0]
         }
-        State::Dad(d) => {
-            let scans = d.n_scans_left.0;
-            let bytes = d.n_bytes_left.0;
-            [4, scans, bytes, 0]
-        }
-        State::Uv(u) => {
-            let scans = u.n_scans_left.0;
-            let points = u.n_wvs_left.0;
-            [5, scans, points, 0]
-        }
+        State::Dad(d) => dad_counts(d),
+        State::Uv(u) => uv_counts(u),
         State::Array(a) => {
             let scans = a.n_scans_left.0;
             let record_type = a.record_type;
             [6, scans, 0, type_number(record_type)]
         }
+        State::AtlasDad(d) => dad_counts(d),
+        State::AtlasUv(u) => uv_counts(u),
     }
 }
 
@@ -115,6 +141,24 @@ pub fn stored_of(st: State) -> u32
         State::Dad(d) => d.stored_time,
         State::Uv(u) => u.stored_time,
         State::Array(_) => 0,
+        State::AtlasDad(d) => d.stored_time,
+        State::AtlasUv(u) => u.stored_time,
+    }
+}
+
+// The reading: 0 plain, 1 atlas.
+pub fn reading_of(st: State) -> u8
+    ensures { λ r. ⌜ r ≡ readingOf st ⌝ }
+{
+    match st {
+        State::Fid(_) => 0,
+        State::Ms(_) => 0,
+        State::Mwd(_) => 0,
+        State::Dad(_) => 0,
+        State::Uv(_) => 0,
+        State::Array(_) => 0,
+        State::AtlasDad(_) => 1,
+        State::AtlasUv(_) => 1,
     }
 }
 
@@ -217,7 +261,7 @@ fn array_from(x: [f64; 6], n: [usize; 4]) -> State
     State::Array(st)
 }
 
-// The state that the numbers hold.
+// The state that the numbers hold under the plain reading.
 pub fn state_of(x: [f64; 6], n: [usize; 4], stored: u32) -> Kept
     ensures { λ r. ⌜ r ≡ stateOf x n stored ⌝ }
 {
@@ -229,6 +273,39 @@ pub fn state_of(x: [f64; 6], n: [usize; 4], stored: u32) -> Kept
         4 => Kept::State(dad_from(x, n, stored)),
         5 => Kept::State(uv_from(x, n, stored)),
         6 => Kept::State(array_from(x, n)),
+        _ => Kept::NoKind,
+    }
+}
+
+// The atlas reading at the place of a plain state. A kind without that reading has no such state.
+fn atlas_state(st: State) -> Kept
+    ensures { λ r. ⌜ r ≡ atlasState st ⌝ }
+{
+    let atlas = atlas_of(st);
+    if reading_of(atlas) == 1 {
+        Kept::State(atlas)
+    } else {
+        Kept::NoKind
+    }
+}
+
+fn atlas_kept(k: Kept) -> Kept
+    ensures { λ r. ⌜ r ≡ atlasKept k ⌝ }
+{
+    match k {
+        Kept::State(st) => atlas_state(st),
+        Kept::NoKind => Kept::NoKind,
+    }
+}
+
+// The state that the numbers hold under a reading.
+pub fn state_by(reading: u8, x: [f64; 6], n: [usize; 4], stored: u32) -> Kept
+    ensures { λ r. ⌜ r ≡ stateBy reading x n stored ⌝ }
+{
+    let plain = state_of(x, n, stored);
+    match reading {
+        0 => plain,
+        1 => atlas_kept(plain),
         _ => Kept::NoKind,
     }
 }

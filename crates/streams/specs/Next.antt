@@ -8,7 +8,7 @@ use Rattle.floats.specs.Wholes.{Sum, flat, doubles}
 use Rattle.streams.specs.Changes.{after}
 use Rattle.streams.specs.Told.{Made, Told}
 use Rattle.streams.specs.declared.State.{State}
-use Rattle.streams.specs.declared.State.the-variants.{Fid, Ms, Mwd, Dad, Uv, Array}
+use Rattle.streams.specs.declared.State.the-variants.{Fid, Ms, Mwd, Dad, Uv, Array, AtlasDad, AtlasUv}
 use Rattle.streams.specs.declared.Record.{Record}
 use Rattle.streams.specs.declared.Record.the-variants.{Trace, Mass, Spectrum}
 use Rattle.streams.specs.declared.Next.{Next}
@@ -22,6 +22,8 @@ sumOf (Mwd st) = flat doubles (st .«cur_intensity»)
 sumOf (Dad st) = flat doubles (st .«cur_intensity»)
 sumOf (Uv st) = flat doubles (st .«cur_intensity»)
 sumOf (Array st) = flat doubles (st .«cur_intensity»)
+sumOf (AtlasDad st) = flat doubles (st .«cur_intensity»)
+sumOf (AtlasUv st) = flat doubles (st .«cur_intensity»)
 
 -- in doubles: the record and the state that a state's value makes with what the fields tell
 abbrev pub itemOf : Made → Sum Float → Item State Record
@@ -48,6 +50,19 @@ storedOf (Mwd st) = 0
 storedOf (Dad st) = st .«stored_time»
 storedOf (Uv st) = st .«stored_time»
 storedOf (Array st) = 0
+storedOf (AtlasDad st) = st .«stored_time»
+storedOf (AtlasUv st) = st .«stored_time»
+
+-- request 5: the state of the atlas reading at the place of a plain one; a kind without such a reading keeps its own
+abbrev pub atlasOf : State → State
+atlasOf (Fid st) = Fid st
+atlasOf (Ms st) = Ms st
+atlasOf (Mwd st) = Mwd st
+atlasOf (Dad st) = AtlasDad st
+atlasOf (Uv st) = AtlasUv st
+atlasOf (Array st) = Array st
+atlasOf (AtlasDad st) = AtlasDad st
+atlasOf (AtlasUv st) = AtlasUv st
 
 -- what an answer says
 abbrev pub answerOf : Next → Read (Item State Record)

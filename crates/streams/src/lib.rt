@@ -12,7 +12,7 @@ ghost use Rattle.rules.specs.Rule.{readAt};
 ghost use Rattle.common.specs.Bytes.{orderOf};
 ghost use Rattle.floats.specs.Wholes.{doubles, flat};
 ghost use Rattle.streams.specs.Changes.{changed};
-ghost use Rattle.streams.specs.Next.{unscaledOf};
+ghost use Rattle.streams.specs.Next.{atlasOf, unscaledOf};
 ghost use Rattle.streams.specs.Told.{corrected, delta, changeOf, deltaRead};
 
 // Counts still due, never one for another.
@@ -130,6 +130,7 @@ pub struct ChemstationArrayState {
     pub mult_correction: f64,
 }
 
+// The state of a kind under the plain reading; DAD and UV under the atlas reading too.
 pub enum State {
     Fid(ChemstationFidState),
     Ms(ChemstationMsState),
@@ -137,6 +138,30 @@ pub enum State {
     Dad(ChemstationDadState),
     Uv(ChemstationUvState),
     Array(ChemstationArrayState),
+    AtlasDad(ChemstationDadState),
+    AtlasUv(ChemstationUvState),
+}
+
+// How a run is read: as the original reads it, or by the press's rule that a scan is spent when its last point has been given.
+pub enum Mode {
+    Plain,
+    Atlas,
+}
+
+// The state of the atlas reading at the place of a plain one; a kind without such a reading keeps its own.
+pub fn atlas_of(st: State) -> State
+    ensures { λ r. ⌜ r ≡ atlasOf st ⌝ }
+{
+    match st {
+        State::Dad(d) => State::AtlasDad(d),
+        State::Uv(u) => State::AtlasUv(u),
+        State::Fid(_) => st,
+        State::Ms(_) => st,
+        State::Mwd(_) => st,
+        State::Array(_) => st,
+        State::AtlasDad(_) => st,
+        State::AtlasUv(_) => st,
+    }
 }
 
 // What Next record answers.

@@ -11,14 +11,18 @@ use Rattle.rules.specs.Calls.{Item, Reading, oneRecord, goOn, readUpTo, Call, n
 use Rattle.rules.proofs.Laws.{read-map}
 use Rattle.common.proofs.Every.{Gets, leads}
 use Rattle.floats.specs.Doubles.{double, minutes}
-use Rattle.metadata.specs.Metadata.{Header, openRule}
+use Rattle.metadata.specs.Metadata.{Header}
 use Rattle.streams.specs.Told.{Told}
-use Rattle.streams.specs.Next.{sumOf, stepped, storedOf}
+use Rattle.streams.specs.Next.{sumOf, stepped, storedOf, atlasOf}
 use Rattle.streams.specs.declared.State.{State}
 use Rattle.streams.specs.declared.Record.{Record}
 use Rattle.streams.specs.declared.Record.the-variants.{Trace, Mass, Spectrum}
 use Rattle.chemstation.specs.Next.{fields, rule}
-use Rattle.opening.specs.Opening.{begins, startRule}
+use Rattle.opening.specs.Opening.{begins}
+use Rattle.modes.specs.Modes.{openBy, beginsBy, startBy}
+use Rattle.streams.specs.declared.Mode.{Mode}
+use Rattle.streams.specs.declared.Mode.the-variants.{Plain, Atlas}
+use Rattle.streams.specs.declared.State.the-variants.{Fid, Ms, Mwd, Dad, Uv, Array, AtlasDad, AtlasUv}
 use Rattle.reader.specs.Columns.{rowOf, Columns, columnsWith}
 use Rattle.times.specs.Times.{scanTime, scanMinutes, stores, Carries, Stamped, Timed, Agrees, All}
 use Rattle.reader.specs.declared.Row.{Row}
@@ -107,9 +111,9 @@ by-kind : (b : Bool) (st other : State) → AtOpen st → AtOpen other → AtOpe
 by-kind true st other p q = p
 by-kind false st other p q = q
 
-pub begun : (kind : ℕ) (x : Header) → AtOpen (begins kind x)
+plainly-begun : (kind : ℕ) (x : Header) → AtOpen (begins kind x)
 unfolding begins
-begun kind x =
+plainly-begun kind x =
     by-kind (eqb kind 1) _ _ (refl, tt)
     (by-kind (eqb kind 2) _ _ (refl, zero-minutes)
     (by-kind (eqb kind 3) _ _ (refl, tt)
@@ -117,13 +121,27 @@ begun kind x =
     (by-kind (eqb kind 5) _ _ (refl, zero-minutes)
     (refl, tt)))))
 
-pub calls : (kind : ℕ) (cs : List Call) (F : List ℕ) → All Timed ((byCalls rule (startRule kind) cs F) .records)
+atlas-open : (st : State) → AtOpen st → AtOpen (atlasOf st)
+atlas-open (Fid st) a = a
+atlas-open (Ms st) a = a
+atlas-open (Mwd st) a = a
+atlas-open (Dad st) a = a
+atlas-open (Uv st) a = a
+atlas-open (Array st) a = a
+atlas-open (AtlasDad st) a = a
+atlas-open (AtlasUv st) a = a
+
+pub begun : (mode : Mode) (kind : ℕ) (x : Header) → AtOpen (beginsBy mode kind x)
+begun Plain kind x = plainly-begun kind x
+begun Atlas kind x = atlas-open (begins kind x) (plainly-begun kind x)
+
+pub calls : (mode : Mode) (kind : ℕ) (cs : List Call) (F : List ℕ) → All Timed ((byCalls rule (startBy mode kind) cs F) .records)
 unfolding called
-calls kind cs F = rw (read-map false (begins kind) (openRule kind) F) (go (read false (openRule kind) F))
+calls mode kind cs F = rw (read-map false (beginsBy mode kind) (openBy mode kind) F) (go (read false (openBy mode kind) F))
   where
-    go : (x : Read Header) → All Timed ((opening F (called rule cs) (mapRead (begins kind) x)) .records)
+    go : (x : Read Header) → All Timed ((opening F (called rule cs) (mapRead (beginsBy mode kind) x)) .records)
     go (stops z) = tt
-    go (got x n) = all-calls cs (begins kind x) (drop n F) (begun kind x .1)
+    go (got x n) = all-calls cs (beginsBy mode kind x) (drop n F) (begun mode kind x .1)
 
 -- ---- kinds that store no time
 

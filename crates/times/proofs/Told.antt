@@ -1,5 +1,5 @@
 -- What the fields of a record tell of its scan's stored time, by the bytes that are there.
-use mathlib.Core.Path.{_≡_, refl, sym, ap, _∙_}
+use mathlib.Core.Path.{_≡_, refl, sym, ap, _∙_, subst}
 use mathlib.Core.Bool.{Bool, true, false, cond}
 use mathlib.Core.List.{List, []}
 use Prim.Native.Nat.{ℕ, zero, suc, _+_, _-_, _*_, _/_, _%_}
@@ -11,7 +11,7 @@ use lib.Seq.{drop-drop}
 use lib.Ieee.{Float}
 use Rattle.rules.specs.Rule.{Rule}
 use Rattle.common.specs.Bytes.{be, le, signed, part}
-use Rattle.common.proofs.Every.{Leads, to-gives, to-refuses, to-ends, leads-number, leads-cond, leads-map, leads-may-end}
+use Rattle.common.proofs.Every.{Leads, to-gives, to-refuses, to-ends, leads-number, leads-cond, leads-map, leads-made, leads-may-end}
 use Rattle.floats.specs.Doubles.{double, minutes}
 use Rattle.floats.specs.Wholes.{Sum}
 use Rattle.streams.specs.Changes.{Change}
@@ -27,7 +27,7 @@ use Rattle.streams.specs.declared.ChemstationArrayState.{ChemstationArrayState}
 use Rattle.streams.specs.declared.Scans.{Scans}
 use Rattle.streams.specs.declared.Points.{Points}
 use Rattle.streams.specs.declared.State.{State}
-use Rattle.streams.specs.declared.State.the-variants.{Fid, Ms, Mwd, Dad, Uv, Array}
+use Rattle.streams.specs.declared.State.the-variants.{Fid, Ms, Mwd, Dad, Uv, Array, AtlasDad, AtlasUv}
 use Rattle.chemstation.specs.Next.{fields}
 use Rattle.fid.specs.Fid.{fidMade, fidRule}
 use Rattle.ms.specs.Ms.{msMade, msPoint, msScans, msScanning}
@@ -35,6 +35,7 @@ use Rattle.mwd.specs.Mwd.{mwdPoint, mwdRule}
 use Rattle.dad.specs.Dad.{dadPoint, dadBegun, dadScan, dadOnward, dadScanning}
 use Rattle.uv.specs.Uv.{uvPoint, uvBegun, uvScan, uvLeft, uvScanning}
 use Rattle.array.specs.Array.{stored, arrayRule}
+use Rattle.atlas.specs.Atlas.{atlasAfter, atlasTold, scanDue}
 use Rattle.times.specs.Times.{msTime, scanTime, inMinutes, scanMinutes, HasTime, stores, Splits, Carries, Timed, Agrees}
 
 -- what a record that is told makes of a stored time and of a double in minutes, whatever its value
@@ -173,12 +174,64 @@ array-tells st s =
     leads-cond (eqb (st .«n_scans_left» .0) 0) (λ t. to-ends)
     (λ t. leads-map _ (stored (st .«record_type»)) s λ x. record { carries = λ y. tt; holds = λ v. refl; kind = λ v. refl; shows = λ y. tt; timed = λ a y. tt; agrees = λ a v. tt })
 
+-- ---- the atlas reading: what a point of the plain one tells, it tells
+
+module _ (k : ℕ) where
+  atlas-stored : (x : State) → storedOf (atlasAfter k x) ≡ storedOf x
+  atlas-stored (Fid st) = refl
+  atlas-stored (Ms st) = refl
+  atlas-stored (Mwd st) = refl
+  atlas-stored (Dad st) = refl
+  atlas-stored (Uv st) = refl
+  atlas-stored (Array st) = refl
+  atlas-stored (AtlasDad st) = refl
+  atlas-stored (AtlasUv st) = refl
+
+  atlas-stores : (x : State) → stores (atlasAfter k x) ≡ stores x
+  atlas-stores (Fid st) = refl
+  atlas-stores (Ms st) = refl
+  atlas-stores (Mwd st) = refl
+  atlas-stores (Dad st) = refl
+  atlas-stores (Uv st) = refl
+  atlas-stores (Array st) = refl
+  atlas-stores (AtlasDad st) = refl
+  atlas-stores (AtlasUv st) = refl
+
+  atlas-agrees : (x : State) → Agrees x → Agrees (atlasAfter k x)
+  atlas-agrees (Fid st) a = a
+  atlas-agrees (Ms st) a = a
+  atlas-agrees (Mwd st) a = a
+  atlas-agrees (Dad st) a = a
+  atlas-agrees (Uv st) a = a
+  atlas-agrees (Array st) a = a
+  atlas-agrees (AtlasDad st) a = a
+  atlas-agrees (AtlasUv st) a = a
+
+  -- st is the state of the atlas reading, plain the one whose fields are read
+  atlas-tells : (st plain : State) {ms : ℕ} {clock : Float} {t : Told} → stores st ≡ stores plain → (Agrees st → Agrees plain) → Tells plain ms clock t → Tells st ms clock (atlasTold k t)
+  atlas-tells st plain {ms} {clock} {t} e a p = record {
+    carries = λ y. subst (λ b. Carries b (t .makes .shows y) ms) (sym e) (p .carries y);
+    holds = λ v. atlas-stored (t .makes .then v) ∙ p .holds v;
+    kind = λ v. atlas-stores (t .makes .then v) ∙ p .kind v ∙ sym e;
+    shows = p .shows;
+    timed = λ h. p .timed (a h);
+    agrees = λ h v. atlas-agrees (t .makes .then v) (p .agrees (a h) v);
+  }
+
 -- ---- all of them
+
+dad-tells : (st : ChemstationDadState) (s : List ℕ) → Leads (Tells (Dad st) (scanTime (Dad st) s) (scanMinutes (Dad st) s)) (fields (Dad st)) s
+dad-tells st s = in-scans (dadScanning st) s (dad-scan st (st .«n_scans_left») s) (dad-point st (dadOnward st) [] s (λ a. a))
+
+uv-tells : (st : ChemstationUvState) (s : List ℕ) → Leads (Tells (Uv st) (scanTime (Uv st) s) (scanMinutes (Uv st) s)) (fields (Uv st)) s
+uv-tells st s = in-scans (uvScanning st) s (uv-scan st s) (uv-point st st (uvLeft st) [] s (λ a. a))
 
 pub tells : (st : State) (s : List ℕ) → Leads (Tells st (scanTime st s) (scanMinutes st s)) (fields st) s
 tells (Fid st) s = fid-tells st s
 tells (Ms st) s = in-scans (msScanning st) s (ms-scans st (st .«n_scans_left» .0) s) (ms-point st _ _ _ _ s (λ a. a))
 tells (Mwd st) s = mwd-tells st s
-tells (Dad st) s = in-scans (dadScanning st) s (dad-scan st (st .«n_scans_left») s) (dad-point st (dadOnward st) [] s (λ a. a))
-tells (Uv st) s = in-scans (uvScanning st) s (uv-scan st s) (uv-point st st (uvLeft st) [] s (λ a. a))
+tells (Dad st) s = dad-tells st s
+tells (Uv st) s = uv-tells st s
 tells (Array st) s = array-tells st s
+tells (AtlasDad st) s = leads-made _ (dad-tells (scanDue st) s) λ x p. atlas-tells _ (AtlasDad st) (Dad (scanDue st)) refl (λ a. a) p
+tells (AtlasUv st) s = leads-made _ (uv-tells st s) λ x p. atlas-tells _ (AtlasUv st) (Uv st) refl (λ a. a) p

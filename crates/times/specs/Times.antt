@@ -15,11 +15,13 @@ use Rattle.floats.specs.Wholes.{IsWhole}
 use Rattle.metadata.specs.Metadata.{Header}
 use Rattle.streams.specs.Next.{storedOf}
 use Rattle.streams.specs.declared.State.{State}
-use Rattle.streams.specs.declared.State.the-variants.{Fid, Ms, Mwd, Dad, Uv, Array}
+use Rattle.streams.specs.declared.State.the-variants.{Fid, Ms, Mwd, Dad, Uv, Array, AtlasDad, AtlasUv}
 use Rattle.streams.specs.declared.Record.{Record}
 use Rattle.streams.specs.declared.Record.the-variants.{Trace, Mass, Spectrum}
 use Rattle.chemstation.specs.Next.{rule}
-use Rattle.opening.specs.Opening.{msBegins, begins, startRule}
+use Rattle.opening.specs.Opening.{msBegins}
+use Rattle.streams.specs.declared.Mode.{Mode}
+use Rattle.modes.specs.Modes.{beginsBy, startBy}
 use denote.Triple.Both.{Both}
 use Rattle.reader.specs.Columns.{rowOf, Columns, columns, columnsWith, fillOf, Fills}
 use Rattle.reader.specs.declared.Filled.{Filled}
@@ -40,6 +42,8 @@ scanTime (Mwd st) s = 0
 scanTime (Dad st) s = cond (eqb (st .«n_bytes_left» .0) 0) (le (part 4 4 s)) (st .«stored_time»)
 scanTime (Uv st) s = cond (eqb (st .«n_wvs_left» .0) 0) (le (part 4 4 s)) (st .«stored_time»)
 scanTime (Array st) s = 0
+scanTime (AtlasDad st) s = cond (eqb (st .«n_bytes_left» .0) 0) (le (part 4 4 s)) (st .«stored_time»)
+scanTime (AtlasUv st) s = cond (eqb (st .«n_wvs_left» .0) 0) (le (part 4 4 s)) (st .«stored_time»)
 
 -- 'MS, DAD and UV'
 abbrev pub stores : State → Bool
@@ -49,6 +53,8 @@ stores (Mwd st) = false
 stores (Dad st) = true
 stores (Uv st) = true
 stores (Array st) = false
+stores (AtlasDad st) = true
+stores (AtlasUv st) = true
 
 -- ---- the double time beside it
 
@@ -64,6 +70,8 @@ scanMinutes (Mwd st) s = double 0
 scanMinutes (Dad st) s = cond (eqb (st .«n_bytes_left» .0) 0) (inMinutes (le (part 4 4 s))) (div binary64 (st .«cur_time») (double 60000))
 scanMinutes (Uv st) s = cond (eqb (st .«n_wvs_left» .0) 0) (inMinutes (le (part 4 4 s))) (st .«cur_time»)
 scanMinutes (Array st) s = double 0
+scanMinutes (AtlasDad st) s = cond (eqb (st .«n_bytes_left» .0) 0) (inMinutes (le (part 4 4 s))) (div binary64 (st .«cur_time») (double 60000))
+scanMinutes (AtlasUv st) s = cond (eqb (st .«n_wvs_left» .0) 0) (inMinutes (le (part 4 4 s))) (st .«cur_time»)
 
 abbrev pub HasTime : Record → Float → Type 0
 HasTime (Trace t u s) x = Unit
@@ -114,6 +122,8 @@ Agrees (Mwd st) = Unit
 Agrees (Dad st) = st .«cur_time» ≡ double (st .«stored_time»)
 Agrees (Uv st) = st .«cur_time» ≡ inMinutes (st .«stored_time»)
 Agrees (Array st) = Unit
+Agrees (AtlasDad st) = st .«cur_time» ≡ double (st .«stored_time»)
+Agrees (AtlasUv st) = st .«cur_time» ≡ inMinutes (st .«stored_time»)
 
 abbrev pub All : (Record → Type 0) → List Record → Type 0
 All P [] = Unit
@@ -144,16 +154,16 @@ shownColumns = columnsWith ((readUpTo rule true 3 (msBegins (record { 0 = 2 })) 
 pub record StoredTimes : Type 0 where
   -- every record, from every state
   pub next : (st : State) (last : Bool) (s : List ℕ) (x : Item State Record) (n : ℕ) → read last (rule st) s ≡ got x n → Stamped st s x
-  -- Open sets the integer to 0, and the double with it; a record keeps the two together, told last or not
-  pub opens : (kind : ℕ) (x : Header) → (storedOf (begins kind x) ≡ 0) × Agrees (begins kind x)
+  -- Open sets the integer to 0, and the double with it, by either reading; a record keeps the two together, told last or not
+  pub opens : (mode : Mode) (kind : ℕ) (x : Header) → (storedOf (beginsBy mode kind x) ≡ 0) × Agrees (beginsBy mode kind x)
   pub keeps : (st : State) (last : Bool) (s : List ℕ) (x : Item State Record) (n : ℕ) → read last (rule st) s ≡ got x n → Agrees st → Timed (x .shows) × Agrees (x .after)
   -- what the contract of Fill columns says of its answer and its columns is what stands below of `fillOf` and `columnsWith`
   pub fills : (st : State) (s : List ℕ) (last : Bool) (r : Filled) (c : Both Columns Columns) → Fills st s last r c →
       let g = fillOf st s last (c .entry) in
       (r .count ≡ length (g .records)) × ((r .state ≡ g .state) × (c .exit ≡ columnsWith (g .records) (c .entry)))
   -- so from Open on, whatever the calls that are told that their bytes are not the last, and in one reading told either
-  pub calls : (kind : ℕ) (cs : List Call) (F : List ℕ) → All Timed ((byCalls rule (startRule kind) cs F) .records)
-  pub reads : (kind : ℕ) (x : Header) (last : Bool) (n : ℕ) (s : List ℕ) → All Timed ((readUpTo rule last n (begins kind x) s) .records)
+  pub calls : (mode : Mode) (kind : ℕ) (cs : List Call) (F : List ℕ) → All Timed ((byCalls rule (startBy mode kind) cs F) .records)
+  pub reads : (mode : Mode) (kind : ℕ) (x : Header) (last : Bool) (n : ℕ) (s : List ℕ) → All Timed ((readUpTo rule last n (beginsBy mode kind x) s) .records)
   -- a u32 is a double without rounding, so that the division's is the one
   pub exact : (ms : ℕ) → ms < 2 ^ 32 → IsWhole binary64 (double ms) (pos ms)
   -- what a record carries stands in its row, and the rows stand in the two columns

@@ -22,7 +22,7 @@ use Rattle.chemstation.specs.Next.{rule}
 use Rattle.whole.specs.Whole.{Whole, summed, wholeRule, atOpen, Exact, AllExact}
 use Rattle.whole.specs.Readings.{Begins, ExactReadings}
 use Rattle.streams.specs.declared.State.{State}
-use Rattle.whole.proofs.Kept.{Holds, holds-exact, begins-holds, Keeps, keeps}
+use Rattle.whole.proofs.Kept.{bare, bare-fields, Holds, holds-exact, begins-holds, Keeps, keeps}
 
 abbrev whole : State → Sum ℤ → ℕ → Whole
 whole st w n = record { state = st; sum = w; deltas = n }
@@ -34,6 +34,10 @@ kept-exact {s} {w} {n} {t} p l =
     let y = (summed w n t) .after in
     let few = p .kind (y .deltas) l in
     rw (p .shown few) (holds-exact st (y .sum) (y .deltas) (p .holds) few)
+
+-- states that differ in their value alone have the same fields
+same-fields : (x y : State) → bare x ≡ bare y → fields x ≡ fields y
+same-fields x y e = bare-fields x ∙ ap fields e ∙ sym (bare-fields y)
 
 module _ (last : Bool) where
   -- of the state in the second reading only the fields count
@@ -55,7 +59,7 @@ module _ (last : Bool) where
           let x = (stepped (sumOf st) t) .after in
           let y = (summed w n t) .after in (
             kept-exact p,
-            onward x (y .state) (y .sum) (y .deltas) (drop c bs) (p .same) (p .holds) (bytes-drop c bs b),
+            onward x (y .state) (y .sum) (y .deltas) (drop c bs) (same-fields x (y .state) (p .same)) (p .holds) (bytes-drop c bs b),
           )
 
   all : (m : ℕ) → Reading m

@@ -1,5 +1,5 @@
 -- What every record of a kind keeps: its value in doubles is the added-up value while the deltas are few; and in MS, DAD and UV they are.
-use mathlib.Core.Path.{_≡_, refl}
+use mathlib.Core.Path.{_≡_, refl, sym, ap, _∙_}
 use mathlib.Core.List.{List, [], _∷_, _++_, foldl, foldl-append}
 use Prim.Native.Nat.{ℕ, zero, suc, _+_, _-_, _*_, _/_, _%_, _^_, _≤_, _<_}
 use native.Mathlib.Nat.{le-trans, pow-le-pow-right, mul-le-mul, div-le-self}
@@ -11,6 +11,7 @@ use borrow.Author.Tests.{eqb-false}
 use Rattle.rules.specs.Rule.{mapRule}
 use Rattle.common.proofs.Sizes.{Order, be-below, le-below}
 use Rattle.common.proofs.Every.{Every, at-gives, at-refuses, at-ends, every-then, every-cond, every-may-end, any, unsigned, twos-complement}
+use Rattle.floats.specs.Doubles.{double}
 use Rattle.floats.specs.Wholes.{IsWhole, Sum, flat, doubles, wholes}
 use Rattle.floats.proofs.Running.{sloping-step, sloping-within, restart}
 use Rattle.streams.specs.Changes.{Change, clears, slopes, restarts, changed, after}
@@ -24,6 +25,7 @@ use Rattle.mwd.specs.Mwd.{mwdPoint, mwdRule}
 use Rattle.dad.specs.Dad.{dadPoint, dadBegun, dadScan, dadOnward, dadScanning, dadRule}
 use Rattle.uv.specs.Uv.{uvPoint, uvBegun, uvScan, uvLeft, uvScanning, uvRule}
 use Rattle.array.specs.Array.{arrayMade, stored, arrayRule}
+use Rattle.atlas.specs.Atlas.{atlasAfter, atlasTold, scanDue}
 use Rattle.streams.specs.Next.{stepped}
 use Rattle.whole.specs.Whole.{deltasAfter, summed, Within}
 use Rattle.whole.specs.Readings.{dueOf, Begins}
@@ -41,7 +43,7 @@ use Rattle.streams.specs.declared.Points.{Points}
 use Rattle.streams.specs.declared.Delta.{Delta}
 use Rattle.streams.specs.declared.Delta.the-variants.{By, Absolute}
 use Rattle.streams.specs.declared.State.{State}
-use Rattle.streams.specs.declared.State.the-variants.{Fid, Ms, Mwd, Dad, Uv, Array}
+use Rattle.streams.specs.declared.State.the-variants.{Fid, Ms, Mwd, Dad, Uv, Array, AtlasDad, AtlasUv}
 use Rattle.whole.proofs.Adding.{Adds, Fair, AllFair, all-fair, adds-start, adds-all, Slopes, slopes-start}
 
 -- a state's value, the added-up value and its deltas
@@ -52,6 +54,8 @@ Holds (Mwd st) w n = Adds (sumOf (Mwd st)) w n
 Holds (Dad st) w n = Adds (sumOf (Dad st)) w n × (2 * n + dueOf (Dad st) ≤ 65536)
 Holds (Uv st) w n = Adds (sumOf (Uv st)) w n × (n + dueOf (Uv st) ≤ 65536)
 Holds (Array st) w n = Unit
+Holds (AtlasDad st) w n = Adds (sumOf (AtlasDad st)) w n × (2 * n + dueOf (AtlasDad st) ≤ 65536)
+Holds (AtlasUv st) w n = Adds (sumOf (AtlasUv st)) w n × (n + dueOf (AtlasUv st) ≤ 65536)
 
 pub holds-exact : (st : State) (w : Sum ℤ) (n : ℕ) → Holds st w n → Within st n → IsWhole binary64 ((sumOf st) .value) (w .value)
 holds-exact (Fid st) w n h l = h .exact (sloping-within (2 ^ 47) n (omega arith) (omega arith))
@@ -60,6 +64,8 @@ holds-exact (Mwd st) w n h l = h .exact (omega arith)
 holds-exact (Dad st) w n h l = h .0 .exact (omega (arith, h .1))
 holds-exact (Uv st) w n h l = h .0 .exact (omega (arith, h .1))
 holds-exact (Array st) w n h l = absurd l
+holds-exact (AtlasDad st) w n h l = h .0 .exact (omega (arith, h .1))
+holds-exact (AtlasUv st) w n h l = h .0 .exact (omega (arith, h .1))
 
 pub begins-holds : (st : State) → Begins st → Holds st (flat wholes (pos 0)) 0
 begins-holds (Fid st) b = slopes-start (b .sum)
@@ -68,6 +74,37 @@ begins-holds (Mwd st) b = adds-start (b .sum)
 begins-holds (Dad st) b = (adds-start (b .sum), omega (arith, b .due))
 begins-holds (Uv st) b = (adds-start (b .sum), omega (arith, b .due))
 begins-holds (Array st) b = tt
+begins-holds (AtlasDad st) b = (adds-start (b .sum), omega (arith, b .due))
+begins-holds (AtlasUv st) b = (adds-start (b .sum), omega (arith, b .due))
+
+abbrev bareDad : ChemstationDadState → ChemstationDadState
+bareDad st = record { «n_scans_left» = st .«n_scans_left»; «n_bytes_left» = st .«n_bytes_left»; «cur_time» = st .«cur_time»; «cur_intensity» = double 0; «cur_wv» = st .«cur_wv»; «wv_step» = st .«wv_step»; «stored_time» = st .«stored_time» }
+
+abbrev bareUv : ChemstationUvState → ChemstationUvState
+bareUv st = record { «n_scans_left» = st .«n_scans_left»; «n_wvs_left» = st .«n_wvs_left»; «cur_time» = st .«cur_time»; «cur_intensity» = double 0; «cur_wv» = st .«cur_wv»; «wv_step» = st .«wv_step»; «mult_correction» = st .«mult_correction»; «stored_time» = st .«stored_time» }
+
+-- a state whose value and slope are 0
+abbrev pub bare : State → State
+bare (Fid st) = Fid (record { «cur_time» = st .«cur_time»; «cur_delta» = double 0; «cur_intensity» = double 0; «time_step» = st .«time_step»; «mult_correction» = st .«mult_correction»; «offset_correction» = st .«offset_correction» })
+bare (Ms st) = Ms (record { «n_scans_left» = st .«n_scans_left»; «n_mzs_left» = st .«n_mzs_left»; «cur_time» = st .«cur_time»; «cur_intensity» = double 0; «stored_time» = st .«stored_time» })
+bare (Mwd st) = Mwd (record { «n_wvs_left» = st .«n_wvs_left»; «cur_time» = st .«cur_time»; «cur_intensity» = double 0; «time_step» = st .«time_step»; «mult_correction» = st .«mult_correction»; «offset_correction» = st .«offset_correction» })
+bare (Dad st) = Dad (bareDad st)
+bare (Uv st) = Uv (bareUv st)
+bare (Array st) = Array (record { «record_type» = st .«record_type»; «n_scans_left» = st .«n_scans_left»; «cur_time» = st .«cur_time»; «cur_intensity» = double 0; «time_step» = st .«time_step»; «mult_correction» = st .«mult_correction» })
+bare (AtlasDad st) = AtlasDad (bareDad st)
+bare (AtlasUv st) = AtlasUv (bareUv st)
+
+-- no field turns on them
+pub bare-fields : (st : State) → fields st ≡ fields (bare st)
+unfolding dadPoint uvPoint uvScan
+bare-fields (Fid st) = unfold fidRule in refl
+bare-fields (Ms st) = refl
+bare-fields (Mwd st) = unfold mwdRule mwdPoint in refl
+bare-fields (Dad st) = refl
+bare-fields (Uv st) = refl
+bare-fields (Array st) = unfold arrayRule in refl
+bare-fields (AtlasDad st) = refl
+bare-fields (AtlasUv st) = refl
 
 -- an i16 or an i32
 delta-fair : {order : List ℕ → ℕ} → Order order → Every (λ d. Fair (changeOf d)) (delta order)
@@ -98,7 +135,71 @@ module _ (s : Sum Float) (w : Sum ℤ) (n : ℕ) where
     pub kind : (m : ℕ) → Within ((summed w n t) .after .state) m → Within ((stepped s t) .after) m
     pub holds : Holds ((stepped s t) .after) ((summed w n t) .after .sum) ((summed w n t) .after .deltas)
     pub shown : Within ((stepped s t) .after) ((summed w n t) .shows .deltas) → unscaledOf ((stepped s t) .shows) ≡ (sumOf ((stepped s t) .after)) .value
-    pub same : fields ((stepped s t) .after) ≡ fields ((summed w n t) .after .state)
+    pub same : bare ((stepped s t) .after) ≡ bare ((summed w n t) .after .state)
+
+-- ---- the atlas reading: what a point of the plain one keeps, it keeps
+
+module _ (k : ℕ) where
+  plain-within : (x : State) (m : ℕ) → Within (atlasAfter k x) m → Within x m
+  plain-within (Fid st) m i = i
+  plain-within (Ms st) m i = i
+  plain-within (Mwd st) m i = i
+  plain-within (Dad st) m i = i
+  plain-within (Uv st) m i = i
+  plain-within (Array st) m i = i
+  plain-within (AtlasDad st) m i = i
+  plain-within (AtlasUv st) m i = i
+
+  atlas-within : (x : State) (m : ℕ) → Within x m → Within (atlasAfter k x) m
+  atlas-within (Fid st) m i = i
+  atlas-within (Ms st) m i = i
+  atlas-within (Mwd st) m i = i
+  atlas-within (Dad st) m i = i
+  atlas-within (Uv st) m i = i
+  atlas-within (Array st) m i = i
+  atlas-within (AtlasDad st) m i = i
+  atlas-within (AtlasUv st) m i = i
+
+  atlas-holds : (x : State) (w : Sum ℤ) (n : ℕ) → Holds x w n → Holds (atlasAfter k x) w n
+  atlas-holds (Fid st) w n h = h
+  atlas-holds (Ms st) w n h = h
+  atlas-holds (Mwd st) w n h = h
+  atlas-holds (Dad st) w n h = h
+  atlas-holds (Uv st) w n h = h
+  atlas-holds (Array st) w n h = h
+  atlas-holds (AtlasDad st) w n h = h
+  atlas-holds (AtlasUv st) w n h = h
+
+  atlas-sum : (x : State) → sumOf x ≡ sumOf (atlasAfter k x)
+  atlas-sum (Fid st) = refl
+  atlas-sum (Ms st) = refl
+  atlas-sum (Mwd st) = refl
+  atlas-sum (Dad st) = refl
+  atlas-sum (Uv st) = refl
+  atlas-sum (Array st) = refl
+  atlas-sum (AtlasDad st) = refl
+  atlas-sum (AtlasUv st) = refl
+
+  atlas-bare : (x : State) → bare (atlasAfter k x) ≡ atlasAfter k (bare x)
+  atlas-bare (Fid st) = refl
+  atlas-bare (Ms st) = refl
+  atlas-bare (Mwd st) = refl
+  atlas-bare (Dad st) = refl
+  atlas-bare (Uv st) = refl
+  atlas-bare (Array st) = refl
+  atlas-bare (AtlasDad st) = refl
+  atlas-bare (AtlasUv st) = refl
+
+  atlas-keeps : {s : Sum Float} {w : Sum ℤ} {n : ℕ} {t : Told} → Keeps s w n t → Keeps s w n (atlasTold k t)
+  atlas-keeps {s} {w} {n} {t} p =
+      let x = (stepped s t) .after in
+      let y = (summed w n t) .after in
+      record {
+        kind = λ m i. atlas-within x m (p .kind m (plain-within (y .state) m i));
+        holds = atlas-holds x (y .sum) (y .deltas) (p .holds);
+        shown = λ i. p .shown (plain-within x (y .deltas) i) ∙ ap (λ v. v .value) (atlas-sum x);
+        same = atlas-bare x ∙ ap (atlasAfter k) (p .same) ∙ sym (atlas-bare (y .state));
+      }
 
 -- records that come in scans
 every-scanning : {P : Told → Type 0} (f : Scanning) → Every P (f .scan) → (¬ (f .due ≡ 0) → Every P (f .point)) → Every P (scanning f)
@@ -200,3 +301,5 @@ keeps (Mwd st) w n h = mwd-keeps st h
 keeps (Dad st) w n h = dad-keeps st (h .0) (h .1)
 keeps (Uv st) w n h = uv-keeps st (h .0) (h .1)
 keeps (Array st) w n h = array-keeps st
+keeps (AtlasDad st) w n h = every-then (dad-keeps (scanDue st) (h .0) (h .1)) λ x p. at-gives (atlas-keeps _ p)
+keeps (AtlasUv st) w n h = every-then (uv-keeps st (h .0) (h .1)) λ x p. at-gives (atlas-keeps _ p)

@@ -10,7 +10,7 @@ use Rattle.floats.specs.Wholes.{flat, doubles}
 use Rattle.streams.specs.Next.{sumOf}
 use Rattle.chemstation.specs.Next.{rule}
 use Rattle.streams.specs.declared.State.{State}
-use Rattle.streams.specs.declared.State.the-variants.{Fid, Ms, Mwd, Dad, Uv, Array}
+use Rattle.streams.specs.declared.State.the-variants.{Fid, Ms, Mwd, Dad, Uv, Array, AtlasDad, AtlasUv}
 use Rattle.whole.specs.Whole.{wholeRule, atOpen, AllExact}
 
 -- points or bytes due
@@ -21,6 +21,8 @@ dueOf (Mwd st) = st .«n_wvs_left» .0
 dueOf (Dad st) = st .«n_bytes_left» .0
 dueOf (Uv st) = st .«n_wvs_left» .0
 dueOf (Array st) = 0
+dueOf (AtlasDad st) = st .«n_bytes_left» .0
+dueOf (AtlasUv st) = st .«n_wvs_left» .0
 
 -- 'At Open each .. value, slope .. and count for which no start is given below is 0'
 pub record Begins (st : State) : Type 0 where

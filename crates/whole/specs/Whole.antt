@@ -12,7 +12,7 @@ use Rattle.streams.specs.Told.{Told}
 use Rattle.streams.specs.Next.{unscaledOf}
 use Rattle.chemstation.specs.Next.{fields}
 use Rattle.streams.specs.declared.State.{State}
-use Rattle.streams.specs.declared.State.the-variants.{Fid, Ms, Mwd, Dad, Uv, Array}
+use Rattle.streams.specs.declared.State.the-variants.{Fid, Ms, Mwd, Dad, Uv, Array, AtlasDad, AtlasUv}
 use Rattle.streams.specs.declared.Record.{Record}
 
 -- ---- in whole numbers
@@ -62,6 +62,8 @@ Within (Mwd st) n = n ≤ 2 ^ 32
 Within (Dad st) n = Unit
 Within (Uv st) n = Unit
 Within (Array st) n = ⊥
+Within (AtlasDad st) n = Unit
+Within (AtlasUv st) n = Unit
 
 -- a record's unscaled intensity is the added-up value
 abbrev pub Exact : Record → Added → Type 0

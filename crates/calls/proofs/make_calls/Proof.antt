@@ -6,7 +6,7 @@ use borrow.Author.Tests.{not-true, not-false}
 use lib.ListN.{length}
 use Rattle.rules.specs.Calls.{asked}
 use Rattle.rules.proofs.Laws.{taken-within}
-use Rattle.opening.specs.Opening.{startRule}
+use Rattle.modes.specs.Modes.{startBy}
 use Rattle.reader.specs.Columns.{columns}
 use Rattle.calls.specs.MakeCalls.{callsOf}
 use Rattle.calls.proofs.Opened.{opened, demanded, above, accepted, has-room, no-state, from-state}
@@ -18,7 +18,7 @@ returns t =
     let a = t .before .before .before .before .before .before .before .before .before .before .before .args in
     let cs = callsOf (a .calls .now) in
     let F = a .file .now in
-    let d = demanded (a .kind) cs F (t .before .before .demand-three .ensures) λ i. omega (arith, t .before .before .before .before .before .before .before .before .before .before .shared-slice-known .given i) in
+    let d = demanded (a .mode) (a .kind) cs F (t .before .before .demand-three .ensures) λ i. omega (arith, t .before .before .before .before .before .before .before .before .before .before .shared-slice-known .given i) in
     let e = sym (t .before .all-equal .ensures) ∙ not-true _ (t .if1 .taken) in
     record { answer = rw e; columns = rw e; demand = d }
 
@@ -29,7 +29,7 @@ returns-2 c =
     let a = t .before .before .before .before .before .before .before .before .before .before .before .args in
     let cs = callsOf (a .calls .now) in
     let F = a .file .now in
-    let d = demanded (a .kind) cs F (t .before .before .demand-three .ensures) λ i. omega (arith, t .before .before .before .before .before .before .before .before .before .before .shared-slice-known .given i) in
+    let d = demanded (a .mode) (a .kind) cs F (t .before .before .demand-three .ensures) λ i. omega (arith, t .before .before .before .before .before .before .before .before .before .before .shared-slice-known .given i) in
     let e = sym (t .before .all-equal .ensures) ∙ not-false _ (t .if1 .left) in
     let h = above (length (a .time .now)) (asked cs) (sym (k .asked-by-all .ensures) ∙ c .enum-told .given .1) in
     record { answer = rw (e, h); columns = rw (e, h); demand = d }
@@ -38,7 +38,7 @@ sub-calls-from : tie.Need-sub-calls-from
 sub-calls-from c =
     let o = c .before .before .before in
     let a = o .before .before .before .before .before .before .before .before .before .before .before .before .before .before .before .before .args in
-    taken-within _ (startRule (a .kind)) (a .file .now) (opened (a .kind) (a .file .now) _ (o .open-run .ensures) _ (c .before .answer2 .given .1))
+    taken-within _ (startBy (a .mode) (a .kind)) (a .file .now) (opened (a .mode) (a .kind) (a .file .now) _ (o .open-by .ensures) _ (c .before .answer2 .given .1))
 
 calls-from-requires : tie.Need-calls-from-requires
 calls-from-requires c κs =
@@ -50,7 +50,7 @@ calls-from-requires c κs =
     let cs = callsOf (a .calls .now) in
     let F = a .file .now in
     let h = accepted cs _ (columns (a .time .now) (a .axis .now) (a .unscaled .now) (a .scaled .now) (a .minutes .now) (a .leftover .now)) (sym (t .before .all-equal .ensures) ∙ not-false _ (t .if1 .left)) (sym (k .asked-by-all .ensures) ∙ m .n .given .1) in
-    has-room (a .kind) cs F _ (columns (a .time .now) (a .axis .now) (a .unscaled .now) (a .scaled .now) (a .minutes .now) (a .leftover .now)) h
+    has-room (a .mode) (a .kind) cs F _ (columns (a .time .now) (a .axis .now) (a .unscaled .now) (a .scaled .now) (a .minutes .now) (a .leftover .now)) h
 
 returns-3 : tie.Need-returns-3
 returns-3 c =
@@ -61,9 +61,9 @@ returns-3 c =
     let a = t .before .before .before .before .before .before .before .before .before .before .before .args in
     let cs = callsOf (a .calls .now) in
     let F = a .file .now in
-    let d = demanded (a .kind) cs F (t .before .before .demand-three .ensures) λ i. omega (arith, t .before .before .before .before .before .before .before .before .before .before .shared-slice-known .given i) in
+    let d = demanded (a .mode) (a .kind) cs F (t .before .before .demand-three .ensures) λ i. omega (arith, t .before .before .before .before .before .before .before .before .before .before .shared-slice-known .given i) in
     let h = accepted cs _ (columns (a .time .now) (a .axis .now) (a .unscaled .now) (a .scaled .now) (a .minutes .now) (a .leftover .now)) (sym (t .before .all-equal .ensures) ∙ not-false _ (t .if1 .left)) (sym (k .asked-by-all .ensures) ∙ m .n .given .1) in
-    no-state (a .kind) cs F _ (columns (a .time .now) (a .axis .now) (a .unscaled .now) (a .scaled .now) (a .minutes .now) (a .leftover .now)) h _ d (opened (a .kind) F _ (o .open-run .ensures) _ (c .before .answer .given .1))
+    no-state (a .mode) (a .kind) cs F _ (columns (a .time .now) (a .axis .now) (a .unscaled .now) (a .scaled .now) (a .minutes .now) (a .leftover .now)) h _ d (opened (a .mode) (a .kind) F _ (o .open-by .ensures) _ (c .before .answer .given .1))
 
 returns-4 : tie.Need-returns-4
 returns-4 c =
@@ -75,10 +75,10 @@ returns-4 c =
     let a = t .before .before .before .before .before .before .before .before .before .before .before .args in
     let cs = callsOf (a .calls .now) in
     let F = a .file .now in
-    let d = demanded (a .kind) cs F (t .before .before .demand-three .ensures) λ i. omega (arith, t .before .before .before .before .before .before .before .before .before .before .shared-slice-known .given i) in
+    let d = demanded (a .mode) (a .kind) cs F (t .before .before .demand-three .ensures) λ i. omega (arith, t .before .before .before .before .before .before .before .before .before .before .shared-slice-known .given i) in
     let h = accepted cs _ (columns (a .time .now) (a .axis .now) (a .unscaled .now) (a .scaled .now) (a .minutes .now) (a .leftover .now)) (sym (t .before .all-equal .ensures) ∙ not-false _ (t .if1 .left)) (sym (k .asked-by-all .ensures) ∙ m .n .given .1) in
-    let q = opened (a .kind) F _ (o .open-run .ensures) _ (r .before .before .before .before .before .before .before .before .before .answer2 .given .1) in
-    from-state (a .kind) cs F _ (columns (a .time .now) (a .axis .now) (a .unscaled .now) (a .scaled .now) (a .minutes .now) (a .leftover .now)) h _ _ d q _ _ (r .calls-from .ensures)
+    let q = opened (a .mode) (a .kind) F _ (o .open-by .ensures) _ (r .before .before .before .before .before .before .before .before .before .answer2 .given .1) in
+    from-state (a .mode) (a .kind) cs F _ (columns (a .time .now) (a .axis .now) (a .unscaled .now) (a .scaled .now) (a .minutes .now) (a .leftover .now)) h _ _ d q _ _ (r .calls-from .ensures)
 
 pub make-calls-spec : {M : Type 1} → statement M
 make-calls-spec =

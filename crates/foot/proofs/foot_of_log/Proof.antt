@@ -10,7 +10,7 @@ returns : tie.Need-returns
 returns c =
     let d = c .before .demand-three .ensures in
     let s = c .totals-are-sums .ensures in
-    record { exact = λ size kind F b l. exact d b l; sum = sum s d; foot = foot s d; number = number; array = array; refused = λ size kind F z e. refused-run e; lines = lines; printed = printed; within = within }
+    record { exact = λ mode size kind F b l. exact d b l; sum = sum s d; foot = foot s d; number = number; array = array; refused = λ mode size kind F z e. refused-run e; lines = lines; printed = printed; within = within }
 
 pub foot-of-log-spec : {M : Type 1} → statement M
 foot-of-log-spec = tie.close (tie.spec (λ c κs. search needs) (λ c κs. search needs) returns)

@@ -9,7 +9,7 @@ use Rattle.logger.proofs.read_more.Tie as tie
 
 returns : tie.Need-returns
 returns c =
-    let a = c .before .before .before .before .before .before .before .before .before .args in
+    let a = c .before .before .before .before .before .before .before .before .args in
     λ p old text f. subst (λ x. weight x < weight p) (sym (c .read-failed .ensures)) (unread-falls p (a .q) old text (a .n) f)
 
 returns-2 : tie.Need-returns-2
@@ -18,4 +18,4 @@ returns-2 c =
     λ p old text f. subst (λ x. weight x < weight p) (sym (c .took .ensures)) (took-falls p (a .q) old text (a .n) _ _ f)
 
 pub read-more-spec : {M : Type 1} → statement M
-read-more-spec = tie.close (tie.spec (λ c. search needs) (λ c. search needs) (λ c. search needs) (λ c κs. search needs) (λ c. search needs) (λ c κs. search needs) (λ c κs. search needs) (λ c. search needs) returns (λ c. search needs) (λ c. search needs) (λ c. search needs) (λ c κs. search needs) (λ c κs. search needs) (λ c. search needs) returns-2)
+read-more-spec = tie.close (tie.spec (λ c. search needs) (λ c. search needs) (λ c. search needs) (λ c κs. search needs) (λ c κs. search needs) (λ c κs. search needs) (λ c. search needs) returns (λ c. search needs) (λ c. search needs) (λ c. search needs) (λ c κs. search needs) (λ c κs. search needs) (λ c. search needs) returns-2)

@@ -13,4 +13,4 @@ returns c =
     λ p h. subst (λ x. weight x < weight p) (sym (c .wrote .ensures)) (wrote-falls p (a .q) h (c .before .before .write-all .result))
 
 pub write-out-spec : {M : Type 1} → statement M
-write-out-spec = tie.close (tie.spec (λ c. search needs) (λ c. search needs) (λ c. search needs) (λ c κs. search needs) (λ c. search needs) (λ c κs. search needs) (λ c κs. search needs) returns)
+write-out-spec = tie.close (tie.spec (λ c. search needs) (λ c. search needs) (λ c. search needs) (λ c κs. search needs) (λ c κs. search needs) (λ c κs. search needs) returns)

@@ -1,0 +1,4 @@
+mod Alike
+mod Begins
+mod Twins
+mod Ends
