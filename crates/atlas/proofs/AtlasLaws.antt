@@ -8,7 +8,9 @@ use Rattle.rules.proofs.Laws.{read-map}
 use Rattle.streams.specs.Told.{Told}
 use Rattle.streams.specs.Next.{sumOf, stepped, ruleBy}
 use Rattle.streams.specs.declared.State.{State}
-use Rattle.atlas.specs.Atlas.{atlasTold, atlasItem}
+use Rattle.atlas.specs.Atlas.{atlasAfter, atlasTold, atlasItem, afterBy}
+use Rattle.atlas.specs.declared.Debit.{Debit}
+use Rattle.atlas.specs.declared.Debit.the-variants.{Plain, Atlas}
 
 -- a rule of fields under the atlas reading: the plain reading's records, with the states behind them changed
 pub atlas-reads : (k : ℕ) (st plain : State) (fields : Rule Told) (last : Bool) (s : List ℕ) → sumOf plain ≡ sumOf st →
@@ -21,3 +23,8 @@ atlas-reads k st plain fields last s e =
     go : (x : Read Told) → mapRead (atlasItem k) (mapRead (stepped (sumOf st)) x) ≡ mapRead (stepped (sumOf st)) (mapRead (atlasTold k) x)
     go (got t n) = refl
     go (stops z) = refl
+
+-- a state that no reading changes
+pub kept : (debit : Debit) (st y : State) → st ≡ y → ((k : ℕ) → atlasAfter k y ≡ y) → st ≡ afterBy debit st
+kept Plain st y e h = refl
+kept (Atlas before) st y e h = e ∙ sym (h (before .0)) ∙ sym (ap (atlasAfter (before .0)) e)

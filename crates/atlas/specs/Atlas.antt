@@ -7,6 +7,7 @@ use Rattle.rules.specs.Calls.{Item}
 use Rattle.streams.specs.Told.{Told}
 use Rattle.streams.specs.declared.ChemstationDadState.{ChemstationDadState}
 use Rattle.streams.specs.declared.ChemstationUvState.{ChemstationUvState}
+use Rattle.streams.specs.declared.Scans.{Scans}
 use Rattle.streams.specs.declared.State.{State}
 use Rattle.streams.specs.declared.State.the-variants.{Fid, Ms, Mwd, Dad, Uv, Array, AtlasDad, AtlasUv}
 use Rattle.streams.specs.declared.Record.{Record}
@@ -19,7 +20,7 @@ use Rattle.uv.specs.Uv.{uvRule}
 abbrev pub spent : ℕ → ℕ → ℕ
 spent scans due = cond (eqb due 0) (scans - 1) scans
 
--- a state after a point with these scans due
+-- a state after a point, so many scans having been due before it
 abbrev pub dadSpent : ℕ → ChemstationDadState → ChemstationDadState
 dadSpent scans st = record {
   «n_scans_left» = record { 0 = spent scans (st .«n_bytes_left» .0) };
@@ -110,7 +111,15 @@ plainOf (Dad st) = Dad st
 plainOf (Uv st) = Uv st
 plainOf (Array st) = Array st
 
--- a record of the plain rule, as the reading has it
+-- the scans due after a point, by those that the plain rule leaves and by what is then due
+abbrev pub scansBy : Debit → Scans → ℕ → Scans
+scansBy Plain scans due = scans
+scansBy (Atlas before) scans due = record { 0 = spent (before .0) due }
+
+-- a state after a point of the plain rule, and a record with it, as the reading has them
+abbrev pub afterBy : Debit → State → State
+afterBy Plain st = st
+afterBy (Atlas before) st = atlasAfter (before .0) st
+
 abbrev pub itemBy : Debit → Item State Record → Item State Record
-itemBy Plain x = x
-itemBy (Atlas scans) x = atlasItem (scans .0) x
+itemBy debit x = record { shows = x .shows; after = afterBy debit (x .after) }

@@ -7,7 +7,7 @@ use streams::State;
 ghost use mathlib.Core.Path.{_≡_};
 ghost use Rattle.rules.specs.Rule.{mapRead};
 ghost use Rattle.streams.specs.Next.{answerOf};
-ghost use Rattle.atlas.specs.Atlas.{spent, dadSpent, uvSpent, atlasAfter, atlasItem, dadDone, scanDue, debitOf, plainOf, itemBy};
+ghost use Rattle.atlas.specs.Atlas.{spent, dadDone, scanDue, debitOf, plainOf, scansBy, afterBy, itemBy};
 
 // The scans due after a point, by those before it and what is then due of its scan.
 fn spend(scans: Scans, due: usize) -> Scans
@@ -20,67 +20,6 @@ fn spend(scans: Scans, due: usize) -> Scans
         return scans;
     }
     Scans(scans.0 - 1)
-}
-
-// A DAD state after a point, so many scans having been due before it.
-fn dad_spent(scans: Scans, st: ChemstationDadState) -> ChemstationDadState
-    ensures { λ r. ⌜ r ≡ dadSpent (scans .0) st ⌝ }
-{
-    let n_bytes_left = st.n_bytes_left;
-    let n_scans_left = spend(scans, n_bytes_left.0);
-    ChemstationDadState {
-        n_scans_left,
-        n_bytes_left,
-        cur_time: st.cur_time,
-        cur_intensity: st.cur_intensity,
-        cur_wv: st.cur_wv,
-        wv_step: st.wv_step,
-        stored_time: st.stored_time,
-    }
-}
-
-// The same of UV.
-fn uv_spent(scans: Scans, st: ChemstationUvState) -> ChemstationUvState
-    ensures { λ r. ⌜ r ≡ uvSpent (scans .0) st ⌝ }
-{
-    let n_wvs_left = st.n_wvs_left;
-    let n_scans_left = spend(scans, n_wvs_left.0);
-    ChemstationUvState {
-        n_scans_left,
-        n_wvs_left,
-        cur_time: st.cur_time,
-        cur_intensity: st.cur_intensity,
-        cur_wv: st.cur_wv,
-        wv_step: st.wv_step,
-        mult_correction: st.mult_correction,
-        stored_time: st.stored_time,
-    }
-}
-
-// The state after a point, by the one that the plain reading has there.
-fn atlas_after(scans: Scans, st: State) -> State
-    ensures { λ r. ⌜ r ≡ atlasAfter (scans .0) st ⌝ }
-{
-    match st {
-        State::Dad(d) => State::AtlasDad(dad_spent(scans, d)),
-        State::Uv(u) => State::AtlasUv(uv_spent(scans, u)),
-        State::Fid(_) => st,
-        State::Ms(_) => st,
-        State::Mwd(_) => st,
-        State::Array(_) => st,
-        State::AtlasDad(_) => st,
-        State::AtlasUv(_) => st,
-    }
-}
-
-// What is answered, by the answer of the plain reading and the scans due before it.
-fn atlas_next(scans: Scans, plain: Next) -> Next
-    ensures { λ r. ⌜ answerOf r ≡ mapRead (atlasItem (scans .0)) (answerOf plain) ⌝ }
-{
-    match plain {
-        Next::Given(r, st, n) => Next::Given(r, atlas_after(scans, st), n),
-        Next::Stopped(z) => Next::Stopped(z),
-    }
 }
 
 // Whether no scans and no bytes are due.
@@ -157,12 +96,81 @@ pub fn plain_of(st: State) -> State
     }
 }
 
+// The scans due after a point, by the reading: those that the plain rule leaves, or those before it less a spent one.
+fn scans_by(debit: Debit, scans: Scans, due: usize) -> Scans
+    ensures { λ r. ⌜ r ≡ scansBy debit scans due ⌝ }
+{
+    match debit {
+        Debit::Plain => scans,
+        Debit::Atlas(before) => spend(before, due),
+    }
+}
+
+// The state after a point, by the reading and the DAD state that the plain rule makes.
+fn dad_after(debit: Debit, st: ChemstationDadState) -> State
+    ensures { λ r. ⌜ r ≡ afterBy debit (State.Dad st) ⌝ }
+{
+    let n_bytes_left = st.n_bytes_left;
+    let n_scans_left = scans_by(debit, st.n_scans_left, n_bytes_left.0);
+    let after = ChemstationDadState {
+        n_scans_left,
+        n_bytes_left,
+        cur_time: st.cur_time,
+        cur_intensity: st.cur_intensity,
+        cur_wv: st.cur_wv,
+        wv_step: st.wv_step,
+        stored_time: st.stored_time,
+    };
+    match debit {
+        Debit::Plain => State::Dad(after),
+        Debit::Atlas(_) => State::AtlasDad(after),
+    }
+}
+
+// The same of UV.
+fn uv_after(debit: Debit, st: ChemstationUvState) -> State
+    ensures { λ r. ⌜ r ≡ afterBy debit (State.Uv st) ⌝ }
+{
+    let n_wvs_left = st.n_wvs_left;
+    let n_scans_left = scans_by(debit, st.n_scans_left, n_wvs_left.0);
+    let after = ChemstationUvState {
+        n_scans_left,
+        n_wvs_left,
+        cur_time: st.cur_time,
+        cur_intensity: st.cur_intensity,
+        cur_wv: st.cur_wv,
+        wv_step: st.wv_step,
+        mult_correction: st.mult_correction,
+        stored_time: st.stored_time,
+    };
+    match debit {
+        Debit::Plain => State::Uv(after),
+        Debit::Atlas(_) => State::AtlasUv(after),
+    }
+}
+
+// The same of any state; no point of DAD or UV leads to another kind.
+fn after_by(debit: Debit, st: State) -> State
+    ensures { λ r. ⌜ r ≡ afterBy debit st ⌝ }
+{
+    match st {
+        State::Dad(d) => dad_after(debit, d),
+        State::Uv(u) => uv_after(debit, u),
+        State::Fid(_) => st,
+        State::Ms(_) => st,
+        State::Mwd(_) => st,
+        State::Array(_) => st,
+        State::AtlasDad(_) => st,
+        State::AtlasUv(_) => st,
+    }
+}
+
 // What is answered, by the answer of the plain reading.
 pub fn atlas_by(debit: Debit, plain: Next) -> Next
     ensures { λ r. ⌜ answerOf r ≡ mapRead (itemBy debit) (answerOf plain) ⌝ }
 {
-    match debit {
-        Debit::Plain => plain,
-        Debit::Atlas(scans) => atlas_next(scans, plain),
+    match plain {
+        Next::Given(r, st, n) => Next::Given(r, after_by(debit, st), n),
+        Next::Stopped(z) => Next::Stopped(z),
     }
 }

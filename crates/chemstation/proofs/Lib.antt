@@ -1,3 +1,4 @@
 pub mod Answers
 pub mod Progress
 pub mod Spectrum
+pub mod Makes

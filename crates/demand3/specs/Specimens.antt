@@ -23,6 +23,7 @@ pub data Operation : Type 0 where
   sizes : ℕ → ℕ → Operation  -- Size the header: a kind and a size word
   streams : ℕ → ℕ → List ℕ → Operation  -- Open, then the records, told last: a kind, the scans due and the bytes behind the header
   atlas : ℕ → ℕ → List ℕ → Operation  -- the same under the atlas reading
+  atlasFile : ℕ → List ℕ → Operation  -- the same of a whole file: a kind and its bytes
 
 pub data Reply : Type 0 where
   sized : ℕ → Reply  -- a header's size, in bytes
@@ -75,6 +76,7 @@ abbrev pub answered : Operation → Reply
 answered (sizes kind size) = sizing (read true (sizeRule kind) (sizeFile size))
 answered (streams kind scans bs) = let F = streamFile kind scans bs in running F (read true (startRule kind) F)
 answered (atlas kind scans bs) = let F = streamFile kind scans bs in runningOn F (read true (startBy Atlas kind) F)
+answered (atlasFile kind F) = runningOn F (read true (startBy Atlas kind) F)
 
 -- ---- the list
 
@@ -122,8 +124,16 @@ specimens =
     ∷ []
 
 -- a UV scan of one wavelength, and its point
-abbrev uvPoint : ℕ → List ℕ
-uvPoint delta = zeros 8 ++ (160 ∷ 15 ∷ 160 ∷ 15 ∷ 1 ∷ 0 ∷ (zeros 8 ++ (delta ∷ 0 ∷ [])))
+abbrev uvOneWavelength : ℕ → List ℕ
+uvOneWavelength delta = zeros 8 ++ (160 ∷ 15 ∷ 160 ∷ 15 ∷ 1 ∷ 0 ∷ (zeros 8 ++ (delta ∷ 0 ∷ [])))
+
+-- a UV scan of three wavelengths
+abbrev uvThree : List ℕ
+uvThree = zeros 8 ++ (160 ∷ 15 ∷ 200 ∷ 15 ∷ 20 ∷ 0 ∷ (zeros 8 ++ (1 ∷ 0 ∷ 1 ∷ 0 ∷ 1 ∷ 0 ∷ [])))
+
+-- a DAD scan of a length, and what stands behind its head
+abbrev dadOf : ℕ → List ℕ → List ℕ
+dadOf size bs = 67 ∷ 0 ∷ size ∷ 0 ∷ (zeros 18 ++ bs)
 
 -- request 5's: 'a DAD run ends after one point of its last scan, and .. UV runs of one wavelength never run out of scans'; and the kinds
 unfoldable pub atlasSpecimens : List Specimen
@@ -135,7 +145,26 @@ atlasSpecimens =
     -- the value is cleared at a scan
     ∷ (atlas 4 2 (dadDeltas ++ dadDeltas) gives left 0 (values (pos 10 ∷ pos 0 ∷ pos 10 ∷ pos 0 ∷ []) 0))
     -- UV of one wavelength, two scans due: the third is unread
-    ∷ (atlas 5 2 (uvPoint 7 ++ (uvPoint 8 ++ uvPoint 9)) gives left 24 (values (pos 7 ∷ pos 8 ∷ []) 0))
+    ∷ (atlas 5 2 (uvOneWavelength 7 ++ (uvOneWavelength 8 ++ uvOneWavelength 9)) gives left 24 (values (pos 7 ∷ pos 8 ∷ []) 0))
+    -- UV of three wavelengths, two scans due: each scan is given whole, the third is unread
+    ∷ (atlas 5 2 (uvThree ++ (uvThree ++ uvThree)) gives left 28 (values (pos 1 ∷ pos 2 ∷ pos 3 ∷ pos 1 ∷ pos 2 ∷ pos 3 ∷ []) 0))
+    -- DAD, three scans due: the fourth is unread
+    ∷ (atlas 4 3 (dadDeltas ++ (dadDeltas ++ (dadDeltas ++ dadDeltas))) gives left 26 (values (pos 10 ∷ pos 0 ∷ pos 10 ∷ pos 0 ∷ pos 10 ∷ pos 0 ∷ []) 0))
+    -- another type, of which no more stands there; a scan without points, and its head cut
+    ∷ (atlas 4 2 (dadDeltas ++ (68 ∷ 0 ∷ [])) gives left 2 (values (pos 10 ∷ pos 0 ∷ []) 0))
+    ∷ (atlas 4 2 (dadDeltas ++ dadOf 22 []) gives left 22 (values (pos 10 ∷ pos 0 ∷ []) 0))
+    ∷ (atlas 4 2 (dadDeltas ++ (67 ∷ 0 ∷ 22 ∷ 0 ∷ zeros 17)) gives left 21 (values (pos 10 ∷ pos 0 ∷ []) 14))
+    -- the last scan cut
+    ∷ (atlas 4 1 (dadOf 26 (10 ∷ 0 ∷ [])) gives left 0 (values (pos 10 ∷ []) 14))
+    -- one byte due takes a whole delta; an escape runs past the length
+    ∷ (atlas 4 1 (dadOf 25 (10 ∷ 0 ∷ 246 ∷ 255 ∷ 9 ∷ [])) gives left 1 (values (pos 10 ∷ pos 0 ∷ []) 0))
+    ∷ (atlas 4 1 (dadOf 24 (0 ∷ 128 ∷ 7 ∷ 0 ∷ 0 ∷ 0 ∷ 9 ∷ [])) gives left 1 (values (pos 7 ∷ []) 0))
+    -- of no bytes: 1 and 18 before any is due
+    ∷ (atlasFile 0 [] gives refusal 1)
+    ∷ (atlasFile 7 [] gives refusal 1)
+    ∷ (atlasFile 1 [] gives refusal 18)
+    ∷ (atlasFile 6 [] gives refusal 18)
+    ∷ (atlasFile 4 [] gives refusal 14)
     -- the kinds: 1 before 18, both before any byte
     ∷ (atlas 1 0 [] gives refusal 18)
     ∷ (atlas 2 0 [] gives refusal 18)

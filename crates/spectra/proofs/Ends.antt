@@ -31,9 +31,9 @@ use Rattle.atlas.specs.Atlas.{atlasTold, dadDone, atlasDadRule, atlasUvRule}
 use Rattle.chemstation.specs.Next.{rule}
 use Rattle.opening.specs.Opening.{begins}
 use Rattle.modes.specs.Modes.{openBy, beginsBy}
-use Rattle.spectra.specs.Spectra.{recordsBy, BeginsSo}
+use Rattle.spectra.specs.Spectra.{recordsBy, BeginsSo, dadWith}
 use Rattle.spectra.proofs.Begins.{same-begins, begins-so}
-use Rattle.spectra.proofs.Twins.{dadWith, DadTwins, AtlasFirst, dad-step, uv-step}
+use Rattle.spectra.proofs.Twins.{DadTwins, AtlasFirst, dad-step, uv-step}
 
 -- ---- rules without an end
 
@@ -104,6 +104,10 @@ dad-ends st last s e = go (st .«n_bytes_left» .0) refl
     go (suc n) q =
         let r = endless-map (stepped (sumOf (AtlasDad st))) (dad-goes st (ne-eqb (st .«n_bytes_left» .0) 0 (λ z. omega arith))) in
         absurd (finished-no (read last (rule (AtlasDad st)) s) e (goes last r s))
+
+pub dad-over : (st : ChemstationDadState) (last : Bool) (s : List ℕ) → st .«n_scans_left» .0 ≡ 0 → st .«n_bytes_left» .0 ≡ 0 → read last (rule (AtlasDad st)) s ≡ stops finished
+unfolding scanning read _>>=_
+dad-over st last s a b = rw (eq-eqb (st .«n_scans_left» .0) 0 a, eq-eqb (st .«n_bytes_left» .0) 0 b) refl
 
 -- with scans due
 uv-goes : (st : ChemstationUvState) → eqb (st .«n_scans_left» .0) 0 ≡ false → Endless (atlasUvRule st)

@@ -27,14 +27,11 @@ use Rattle.dad.specs.Dad.{widthOf, dadMade, dadPoint, dadBegun, dadScan, dadOnw
 use Rattle.uv.specs.Uv.{uvMade, uvPoint, uvBegun, uvScan, uvLeft, uvRule}
 use Rattle.atlas.specs.Atlas.{spent, dadDone, atlasTold, atlasDadRule, atlasUvRule}
 use Rattle.chemstation.specs.Next.{fields, rule}
+use Rattle.spectra.specs.Spectra.{dadWith}
 use Rattle.spectra.proofs.Alike.{Alike, both-give, both-field, both-refuse, both-end, Matches, alike-reads, alike-mapped, alike-both, alike-cond}
 use Rattle.spectra.proofs.Begins.{Twin, Steps}
 
 -- ---- states
-
--- a DAD state with other scans due
-abbrev pub dadWith : ℕ → ChemstationDadState → ChemstationDadState
-dadWith n st = record { «n_scans_left» = record { 0 = n }; «n_bytes_left» = st .«n_bytes_left»; «cur_time» = st .«cur_time»; «cur_intensity» = st .«cur_intensity»; «cur_wv» = st .«cur_wv»; «wv_step» = st .«wv_step»; «stored_time» = st .«stored_time» }
 
 -- within a scan the plain reading has debited it, and the atlas reading has not
 abbrev owed : ChemstationDadState → ℕ
