@@ -1,9 +1,9 @@
 -- Two rules with the same fields, and outcomes that belong together.
-use mathlib.Core.Path.{_≡_, refl, sym, ap, _∙_}
+use mathlib.Core.Path.{_≡_, refl, ap}
 use mathlib.Core.Bool.{Bool, true, false, cond}
 use mathlib.Core.List.{List}
-use Prim.Native.Nat.{ℕ, _+_, _≤_, _<_}
-use lib.ListN.{length, take, drop}
+use Prim.Native.Nat.{ℕ, _+_}
+use lib.ListN.{take, drop}
 use Rattle.rules.specs.Rule.{Rule, gives, field, refuses, ends, Read, got, stops, taking, read, _>>=_, mapRule}
 use Rattle.rules.proofs.Laws.{by-fit, read-fits, read-past}
 

@@ -1,12 +1,12 @@
 -- A reading begins another where each of its records is the other's, until it ends.
-use mathlib.Core.Path.{_≡_, refl, sym, ap, ap₂, _∙_, subst}
+use mathlib.Core.Path.{_≡_, refl, sym, ap, ap₂, subst}
 use mathlib.Core.Bool.{Bool}
 use mathlib.Core.Logic.{_⊎_, inl, inr}
 use mathlib.Core.List.{List, [], _∷_}
 use Prim.Native.Nat.{ℕ, zero, suc}
 use lib.ListN.{length, take, drop}
-use Rattle.rules.specs.Rule.{Stop, finished, Read, got, stops, read}
-use Rattle.rules.specs.Calls.{Item, Answer, stopped, Reading, Result, resultOf, goOn, readUpTo}
+use Rattle.rules.specs.Rule.{finished, Read, got, stops, read}
+use Rattle.rules.specs.Calls.{Item, Answer, stopped, Result, resultOf, goOn, readUpTo}
 use Rattle.chemstation.specs.Next.{rule}
 use Rattle.streams.specs.declared.State.{State}
 use Rattle.streams.specs.declared.Record.{Record}

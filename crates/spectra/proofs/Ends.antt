@@ -1,21 +1,21 @@
 -- Where a reading does not end; and the theorem of two readings from Open on.
-use mathlib.Core.Path.{_≡_, refl, sym, ap, _∙_, subst}
+use mathlib.Core.Path.{_≡_, refl, ap, subst}
 use mathlib.Core.Bool.{Bool, true, false, cond, _&&_}
 use mathlib.Core.List.{List, [], _∷_, _++_}
-use Prim.Native.Nat.{ℕ, zero, suc, _+_, _≤_}
+use Prim.Native.Nat.{ℕ, zero, suc, _+_}
 use native.Mathlib.Nat.{le-refl}
 use native.Mathlib.Omega.{arith}
 use lib.Dec.{eqb, ltb}
 use lib.IntN.{negsuc}
-use lib.ListN.{length, take, drop}
+use lib.ListN.{take, drop}
 use borrow.Author.Tests.{eq-eqb, ne-eqb}
-use Rattle.rules.specs.Rule.{Rule, gives, field, refuses, Stop, refused, finished, moreBytes, lacks, Read, got, stops, taking, read, _>>=_, mapRule, mapRead}
+use Rattle.rules.specs.Rule.{Rule, gives, field, refuses, refused, finished, moreBytes, lacks, Read, got, stops, taking, read, _>>=_, mapRule, mapRead}
 use Rattle.rules.specs.Calls.{Result, resultOf, opening, readUpTo}
 use Rattle.rules.proofs.Laws.{by-fit, read-fits, read-past, read-map}
 use Rattle.common.specs.Bytes.{le, signed}
 use Rattle.metadata.specs.Metadata.{Header, openRule}
 use Rattle.streams.specs.Changes.{Change, clears}
-use Rattle.streams.specs.Told.{Told, told, isInt, delta, changeOf}
+use Rattle.streams.specs.Told.{told, isInt, delta, changeOf}
 use Rattle.streams.specs.Next.{sumOf, stepped, atlasOf}
 use Rattle.streams.specs.Scanning.{scanning}
 use Rattle.streams.specs.declared.ChemstationDadState.{ChemstationDadState}

@@ -8,7 +8,6 @@ use lib.Dec.{leb}
 use borrow.Author.Tests.{leb-true}
 use Rattle.rules.specs.Rule.{refuses, refused, Read, got, stops, read, mapRead, mapRule, _>>=_}
 use Rattle.rules.proofs.Laws.{read-map}
-use Rattle.agilent.specs.Header.{known}
 use Rattle.metadata.specs.Metadata.{Header, openRule}
 use Rattle.streams.specs.Next.{atlasOf}
 use Rattle.streams.specs.declared.Mode.the-variants.{Atlas}

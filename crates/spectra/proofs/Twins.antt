@@ -1,14 +1,14 @@
 -- DAD and UV states of the two readings at the same place: they differ in the scans due alone, and read the same fields.
-use mathlib.Core.Path.{_≡_, refl, sym, ap, ap₂, _∙_, subst}
+use mathlib.Core.Path.{_≡_, refl, sym, ap, ap₂, subst}
 use mathlib.Core.Bool.{Bool, true, false, cond}
-use mathlib.Core.Logic.{_⊎_, inl, inr}
+use mathlib.Core.Logic.{inl, inr}
 use mathlib.Core.List.{List, [], _∷_, _++_}
 use Prim.Native.Nat.{ℕ, zero, suc, _+_, _-_, _/_, _≤_, _<_}
 use native.Mathlib.Omega.{arith}
 use lib.Dec.{eqb, ltb}
 use lib.Ieee.{Float}
 use borrow.Author.Tests.{eq-eqb, ne-eqb, eqb-true, eqb-false}
-use Rattle.rules.specs.Rule.{Rule, ends, finished, Read, got, stops, read, _>>=_, mapRule, mapRead}
+use Rattle.rules.specs.Rule.{ends, Read, got, stops, read, _>>=_, mapRule}
 use Rattle.rules.specs.Calls.{Item}
 use Rattle.common.specs.Bytes.{le}
 use Rattle.floats.specs.Wholes.{Sum, doubles}
@@ -28,7 +28,7 @@ use Rattle.uv.specs.Uv.{uvMade, uvPoint, uvBegun, uvScan, uvLeft, uvRule}
 use Rattle.atlas.specs.Atlas.{spent, dadDone, atlasTold, atlasDadRule, atlasUvRule}
 use Rattle.chemstation.specs.Next.{fields, rule}
 use Rattle.spectra.specs.Spectra.{dadWith}
-use Rattle.spectra.proofs.Alike.{Alike, both-give, both-field, both-refuse, both-end, Matches, alike-reads, alike-mapped, alike-both, alike-cond}
+use Rattle.spectra.proofs.Alike.{Alike, both-field, both-refuse, both-end, Matches, alike-reads, alike-mapped, alike-both, alike-cond}
 use Rattle.spectra.proofs.Begins.{Twin, Steps}
 
 -- ---- states
