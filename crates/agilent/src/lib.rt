@@ -1,4 +1,5 @@
 // Size the header (the Rust's agilent/mod.rs).
+#![tactic(auto)]
 ghost use Rattle.std.specs.Prelude.{◌≡◌, ◌<◌};
 ghost use Rattle.rules.specs.Rule.{read};
 ghost use Rattle.agilent.specs.Header.{size_of, size_rule, size_read};
@@ -7,7 +8,7 @@ use common::be_u32;
 use error::{Refusal, Stopped, cut};
 
 // What Size the header answers.
-#[derive(Drop)]
+#[derive(Clone, Copy)]
 pub enum HeaderSize {
     Bytes(usize),
     Stopped(Stopped),

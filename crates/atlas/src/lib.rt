@@ -1,4 +1,5 @@
 // The atlas reading of DAD and UV: a scan is spent when its last point has been given.
+#![tactic(auto)]
 ghost use Rattle.std.specs.Prelude.{◌≡◌};
 ghost use Rattle.rules.specs.Rule.{map_read};
 ghost use Rattle.streams.specs.Next.{answer_of};
@@ -50,7 +51,7 @@ fn scan_due(st: ChemstationDadState) -> ChemstationDadState
 // compiler can build into the loops over records
 
 // What scans due after a point go by: those before it, or, of the plain reading, its own rule.
-#[derive(Drop)]
+#[derive(Clone, Copy)]
 pub enum Debit {
     Plain,
     Atlas(Scans),

@@ -1,4 +1,5 @@
 // Writes the log of a run, opened by the atlas reading: a kind digit and the file from standard input, the log to standard output.
+#![tactic(auto)]
 fn main() {
     let mut buf = [0u8; 32768];
     let mut out = [0u8; 32768];

@@ -1,5 +1,6 @@
 // Next record in the two forms that borrow: over a state that the caller lends, and from a reader that holds the bytes and a
 // position in them. Functions over them are thin; the work is done by value, on a slice and a number.
+#![tactic(auto)]
 ghost use Rattle.std.specs.Prelude.{◌≡◌, ◌+◌, length, drop};
 ghost use Rattle.rules.specs.Rule.{read};
 ghost use Rattle.chemstation.specs.Next.{rule};
@@ -13,14 +14,14 @@ use streams::{Next, Record, State};
 // ---- Next record over a borrow of the state
 
 // What is given beside the state.
-#[derive(Drop)]
+#[derive(Clone, Copy)]
 pub enum Given {
     // a record and the count of bytes that it took
     Record(Record, usize),
     Stopped(Stopped),
 }
 
-#[derive(Drop)]
+#[derive(Clone, Copy)]
 struct Stepped {
     given: Given,
     state: State,
@@ -60,7 +61,7 @@ fn left_at(s: &[u8], at: usize) -> usize
     if at < s.len() { s.len() - at } else { 0 }
 }
 
-#[derive(Drop)]
+#[derive(Clone, Copy)]
 pub struct NextAt {
     pub next: Next,
     // the position after the record, or as it was
@@ -80,7 +81,7 @@ pub fn next_at(st: State, s: &[u8], at: usize, last: bool) -> NextAt
 }
 
 // The bytes and the position that counts over them.
-#[derive(Drop)]
+#[derive(Clone, Copy)]
 pub struct Reader<'a> {
     pub bytes: &'a [u8],
     pub at: usize,

@@ -1,9 +1,10 @@
 // Days of the Gregorian calendar from 1969 to 2068, and instants: whole seconds from 1 January 1969, 00:00:00.
+#![tactic(auto)]
 ghost use Rattle.std.specs.Prelude.{◌≡◌, ◌≤◌, ◌<◌};
 ghost use Rattle.calendar.specs.Calendar.{leap, days_in, before_month, of_years, day_number, is_day, instant_of, Printed, InRange, CalendarDays};
 
 // A day and a time of that day.
-#[derive(Drop)]
+#[derive(Clone, Copy)]
 pub struct Moment {
     pub year: u16,
     pub month: u8,

@@ -1,5 +1,6 @@
 // The calls of demand 3, made by the code: one Open, then Next record by value and Fill columns in any order and number, each
 // with the state that the last returned and the bytes that it left.
+#![tactic(auto)]
 ghost use Rattle.std.specs.Prelude.{◌≡◌, cond, ◌+◌, ltb};
 ghost use Rattle.rules.specs.Calls.{full, next, fill_unequal, asks, asked, called};
 ghost use Rattle.chemstation.specs.Next.{rule};
@@ -11,7 +12,7 @@ use reader::{Closing, Filled};
 use streams::{Mode, Next, State};
 
 // What the calls answer.
-#[derive(Drop)]
+#[derive(Clone, Copy)]
 pub enum AllCalls {
     // N, the count of rows and Z
     Rows {
@@ -37,7 +38,7 @@ fn asked_by(call: usize) -> usize
 }
 
 // How many records the calls ask for: N, which may be larger than any number here.
-#[derive(Drop)]
+#[derive(Clone, Copy)]
 enum Asked {
     Records(usize),
     Above,

@@ -1,5 +1,7 @@
 // Numbers at a position of a byte slice, in the order of the Rust's `impl_extract!` list. The caller sees that the bytes are
 // there.
+#![tactic(auto)]
+
 ghost use Rattle.std.specs.Prelude.{◌≡◌, ◌+◌, ◌*◌, ◌≤◌, length};
 ghost use Rattle.common.specs.Bytes.{be, le, order_of, signed, twos, part};
 
@@ -131,7 +133,7 @@ pub fn le_u64(s: &[u8], at: usize) -> u64
 
 // ---- in an order that is passed along
 
-#[derive(Drop)]
+#[derive(Clone, Copy)]
 pub enum Endian {
     Big,
     Little,

@@ -1,4 +1,5 @@
 // The four forms in which a run date is written, and the instant that it names.
+#![tactic(auto)]
 ghost use Rattle.std.specs.Prelude.{◌≡◌, false, ◌+◌, ◌≤◌, ◌<◌, length, get_or};
 ghost use Rattle.items.specs.declared.Item.TheVariants.{Sign};
 ghost use Rattle.dates.specs.Grammar.{FourForms};
@@ -7,7 +8,7 @@ ghost use Rattle.dates.specs.Dates.{items_of, year_of, hour_of, moment, moment_o
 use calendar::Moment;
 use items::{Found, Item, item_at};
 
-#[derive(Drop)]
+#[derive(Clone, Copy)]
 pub enum Form {
     First,
     Second,
@@ -16,7 +17,7 @@ pub enum Form {
 }
 
 // What a text says.
-#[derive(Drop)]
+#[derive(Clone, Copy)]
 pub enum Date {
     // seconds from 1 January 1969, 00:00:00
     Instant(u32),
@@ -24,7 +25,7 @@ pub enum Date {
 }
 
 // The values of a form, if the text has it.
-#[derive(Drop)]
+#[derive(Clone, Copy)]
 struct Numbers {
     pub there: bool,
     pub count: usize,

@@ -1,9 +1,11 @@
 // Why there is no record and no header: the answers that every operation shares, and the papers' numbers for them.
+#![tactic(auto)]
+
 ghost use Rattle.std.specs.Prelude.{◌≡◌, [], true, false};
 ghost use Rattle.rules.specs.Rule.{lacks};
 ghost use Rattle.error.specs.Number.{number_of, stop_of};
 
-#[derive(Drop)]
+#[derive(Clone, Copy)]
 pub enum Refusal {
     UnknownKind,
     SizeWordZero,
@@ -32,7 +34,7 @@ pub enum Refusal {
 }
 
 // The answers without an outcome.
-#[derive(Drop)]
+#[derive(Clone, Copy)]
 pub enum Stopped {
     Refused(Refusal),
     Finished,

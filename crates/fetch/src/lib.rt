@@ -1,4 +1,5 @@
 // Fetch a text: its UTF-8, straight from the header's bytes to the lent buffer, through no other array.
+#![tactic(auto)]
 ghost use Rattle.std.specs.Prelude.{◌≡◌, true, ◌&&◌, List, ℕ, ◌≤◌, ◌<◌, leb, length, get_or};
 ghost use Rattle.rules.specs.Rule.{gives, finished, got, read};
 ghost use Rattle.error.specs.Number.{number_of, stop_of};
@@ -16,7 +17,7 @@ use utf16::decode_utf16;
 use written::{Written, copy_text};
 
 // What Fetch a text answers.
-#[derive(Drop)]
+#[derive(Clone, Copy)]
 pub enum Fetched {
     // its length in bytes
     Text(usize),
@@ -24,7 +25,7 @@ pub enum Fetched {
 }
 
 // The answer, and beside it how many units of the text were replaced by U+FFFD: 0 where it is refused.
-#[derive(Drop)]
+#[derive(Clone, Copy)]
 pub struct FetchedText {
     pub answer: Fetched,
     pub replaced: usize,

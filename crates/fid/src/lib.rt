@@ -1,4 +1,5 @@
 // FID: the record stream of a flame ionization detector.
+#![tactic(auto)]
 ghost use Rattle.std.specs.Prelude.{◌≡◌, ◌∷◌, []};
 ghost use Rattle.rules.specs.Rule.{got, read};
 ghost use Rattle.streams.specs.Changes.{slopes, restarts};

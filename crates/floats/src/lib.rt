@@ -1,5 +1,7 @@
 // Doubles: from integers and from bit patterns, to bit patterns, a stored time in minutes, and a scan quotient cut to a count.
 // Every function has an answer for every input, NaNs and infinities included.
+#![tactic(auto)]
+
 ghost use Rattle.std.specs.Prelude.{◌≡◌, pos, from_bits};
 ghost use Rattle.std.specs.Float.{binary32, binary64};
 ghost use Rattle.std.specs.Float.Ieee.{of_int};
@@ -70,7 +72,7 @@ pub fn f64_from_f32_bits(bits: u32) -> f64
 }
 
 // What is printed of a double: a NaN's bits are free.
-#[derive(Drop)]
+#[derive(Clone, Copy)]
 pub enum Bits {
     Nan,
     Pattern(u64),
@@ -89,7 +91,7 @@ pub fn f64_to_bits(x: f64) -> Bits
 
 // ---- the scans of an array
 
-#[derive(Drop)]
+#[derive(Clone, Copy)]
 pub enum ScanCount {
     // 2^53 or more
     TooMany,

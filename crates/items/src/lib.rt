@@ -1,10 +1,11 @@
 // What stands in a form of a date, item by item: characters, numbers, names of months, am and pm.
+#![tactic(auto)]
 ghost use Rattle.std.specs.Prelude.{◌≡◌, ◌&&◌, eqb, get_or};
 ghost use Rattle.items.specs.declared.Item.TheVariants.{Sign, Two, OneOrTwo, MonthName, HalfDay, PlusMinus};
 ghost use Rattle.items.specs.Items.{is_digit, lower, starts, ranged, two, one_or_two, month_named, half, stands_at};
 
 // What stands in a form, one behind the other. The two numbers are the least and the most.
-#[derive(Drop)]
+#[derive(Clone, Copy)]
 pub enum Item {
     // this character
     Sign(u8),
@@ -21,7 +22,7 @@ pub enum Item {
 }
 
 // What an item is at the start of a text, and of how many characters.
-#[derive(Drop)]
+#[derive(Clone, Copy)]
 pub enum Found {
     Nothing,
     Passed(usize),

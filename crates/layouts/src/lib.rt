@@ -1,4 +1,5 @@
 // What stands where in a header, by the edition.
+#![tactic(auto)]
 ghost use Rattle.std.specs.Prelude.{◌≡◌, ℕ};
 ghost use Rattle.layouts.specs.Table.{field_of};
 ghost use Rattle.layouts.specs.Layouts.{layout_of, field_by};
@@ -6,14 +7,14 @@ ghost use Rattle.layouts.specs.Layouts.{layout_of, field_by};
 use pascal::TextField;
 
 // How the start and the end of a run are stored.
-#[derive(Drop)]
+#[derive(Clone, Copy)]
 pub enum Clock {
     Nowhere,
     Whole,
     Single,
 }
 
-#[derive(Drop)]
+#[derive(Clone, Copy)]
 pub struct Layout {
     pub edition: u32,
     // of a header, in bytes; 0 for an unknown edition

@@ -1,4 +1,5 @@
 // The loop that reads records and puts their lines, and the theorem that a file has one log.
+#![tactic(auto)]
 ghost use Rattle.std.specs.Prelude.{◌-◌, ◌≤◌, ◌≡◌, ◌++◌, length, take, drop};
 ghost use Rattle.log.specs.Runs.{logged, LoggedBy};
 ghost use Rattle.log.specs.Log.{OneLog};
@@ -8,7 +9,7 @@ use streams::{Next, State};
 use sums::Total;
 
 // How far a part of the bytes was logged.
-#[derive(Drop)]
+#[derive(Clone, Copy)]
 pub struct Logged {
     // the state after the last record
     pub state: State,

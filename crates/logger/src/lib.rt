@@ -1,4 +1,5 @@
 // The log program's input and output: what the machine asks for is read and written.
+#![tactic(auto)]
 ghost use Rattle.std.specs.Prelude.{ℕ, ◌≤◌, ◌<◌, List, length};
 ghost use Rattle.places.specs.declared.Ask.TheVariants as ask;
 ghost use Rattle.runs.specs.Whole.{weight, Falls};

@@ -1,4 +1,5 @@
 // What a header says (the Rust's metadata.rs): numbers, where its eight texts stand, and the scans due.
+#![tactic(auto)]
 ghost use Rattle.std.specs.Prelude.{◌≡◌, List, ℕ, ◌+◌, ◌≤◌, ◌<◌, length};
 ghost use Rattle.rules.specs.Rule.{stops, read};
 ghost use Rattle.error.specs.Number.{stop_of};
@@ -17,7 +18,7 @@ use floats::{
 use layouts::{Clock, Layout, field_in, layout_of};
 use pascal::{TextPlace, text_place};
 
-#[derive(Drop)]
+#[derive(Clone, Copy)]
 pub struct ChemstationMetadata {
     pub edition: u32,
     pub size: usize,
@@ -35,7 +36,7 @@ pub struct ChemstationMetadata {
 }
 
 // What Open answers of a header.
-#[derive(Drop)]
+#[derive(Clone, Copy)]
 pub enum Opened {
     // the size in bytes, the scans due (0 for FID and MWD), and an array's minutes a record (0.0 for the other kinds)
     Header {
@@ -47,7 +48,7 @@ pub enum Opened {
 }
 
 // A header that was opened, and what it says. Of one that was not, the description is all zero.
-#[derive(Drop)]
+#[derive(Clone, Copy)]
 pub struct OpenedHeader {
     pub answer: Opened,
     pub metadata: ChemstationMetadata,

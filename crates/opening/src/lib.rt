@@ -1,4 +1,5 @@
 // Open over all kinds: the header, what it says, and the state before the first record.
+#![tactic(auto)]
 ghost use Rattle.std.specs.Prelude.{◌≡◌, ◌+◌, ◌≤◌, length};
 ghost use Rattle.common.specs.Bytes.{part};
 ghost use Rattle.opening.specs.Opening.{same_bytes, record_type, fid_begins, ms_begins, mwd_begins, dad_begins, uv_begins, array_begins, begins, OpensRun};
@@ -12,7 +13,7 @@ use streams::{
 };
 
 // What Open answers.
-#[derive(Drop)]
+#[derive(Clone, Copy)]
 pub enum Opening {
     // the state before the first record, and the header's size
     Run(State, usize),
@@ -20,7 +21,7 @@ pub enum Opening {
 }
 
 // What a run that was opened says of itself. Of one that was not, the description is all zero.
-#[derive(Drop)]
+#[derive(Clone, Copy)]
 pub struct OpenedRun {
     pub answer: Opening,
     pub metadata: ChemstationMetadata,

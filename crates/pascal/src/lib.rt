@@ -1,4 +1,5 @@
 // Texts behind a length byte (the Rust's get_pascal and get_utf16_pascal): where they stand in a header.
+#![tactic(auto)]
 ghost use Rattle.std.specs.Prelude.{◌≡◌, ◌+◌, ◌≤◌, ◌<◌, length};
 ghost use Rattle.rules.specs.Rule.{gives};
 ghost use Rattle.pascal.specs.Texts.{reach, place_at, pascal, utf16_pascal, text_rule, place_rule};
@@ -7,7 +8,7 @@ use error::Refusal;
 use trim::{Trimmed, trim_utf8};
 
 // The field of a text.
-#[derive(Drop)]
+#[derive(Clone, Copy)]
 pub enum TextField {
     // the edition has no such text
     Absent,
@@ -20,7 +21,7 @@ pub enum TextField {
 }
 
 // Where a text stands and its length, in bytes, or why the header is refused.
-#[derive(Drop)]
+#[derive(Clone, Copy)]
 pub enum TextPlace {
     At(usize, usize),
     Refused(Refusal),

@@ -1,4 +1,5 @@
 // Where a run of the log program stands, and what it asks for there: the parts of a step.
+#![tactic(auto)]
 ghost use Rattle.std.specs.Prelude.{ℕ, ◌+◌, ◌-◌, ◌≤◌, ◌<◌, ◌≡◌, List, false, length};
 ghost use Rattle.rules.specs.Rule.{read};
 ghost use Rattle.error.specs.Number.{stop_of};
@@ -13,7 +14,7 @@ use streams::{Mode, State};
 use sums::Total;
 
 // What a run does next.
-#[derive(Drop)]
+#[derive(Clone, Copy)]
 pub enum Phase {
     // the digit is due, of a run that is opened by this reading
     Digit(Mode),
@@ -28,7 +29,7 @@ pub enum Phase {
 }
 
 // Where a run stands.
-#[derive(Drop)]
+#[derive(Clone, Copy)]
 pub struct Place {
     pub phase: Phase,
     // the bytes of the input buffer that have come and are not consumed
@@ -47,7 +48,7 @@ pub struct Place {
 }
 
 // What a run asks for, and where it stands then.
-#[derive(Drop)]
+#[derive(Clone, Copy)]
 pub enum Ask {
     // the first bytes of the output buffer, on standard output
     Write(Place, usize),

@@ -1,4 +1,5 @@
 // Fill columns, over all kinds; and what it changes that bytes are told to be the last.
+#![tactic(auto)]
 ghost use Rattle.std.specs.Prelude.{◌≡◌, true};
 ghost use Rattle.rules.specs.Rule.{refused};
 ghost use Rattle.rules.specs.Calls.{stopped, nothing};
@@ -10,7 +11,7 @@ use error::{Refusal, Stopped};
 use streams::{Next, Record, State};
 
 // A record as a row of six columns; a kind without an axis has 0.0 there, one without a stored time 0 in the last two.
-#[derive(Drop)]
+#[derive(Clone, Copy)]
 pub struct Row {
     pub time: f64,
     pub axis: f64,
@@ -71,14 +72,14 @@ pub fn row_of(r: Record) -> Row
 }
 
 // What closes a filling.
-#[derive(Drop)]
+#[derive(Clone, Copy)]
 pub enum Closing {
     Full,
     Stopped(Stopped),
 }
 
 // The count of records, the bytes consumed, the state after the last record, the closing answer.
-#[derive(Drop)]
+#[derive(Clone, Copy)]
 pub struct Filled {
     pub count: usize,
     pub consumed: usize,

@@ -1,4 +1,5 @@
 // Answers stored cases: frames from standard input, the texts of the answers to standard output.
+#![tactic(auto)]
 ghost use Rattle.std.specs.Prelude.{◌+◌, ◌*◌, ◌≤◌, ◌<◌, ◌≡◌, length};
 
 use error::Stopped;
@@ -236,7 +237,7 @@ fn put_case(s: &[u8], number: u64, out: &mut [u8], at: usize) -> usize
 
 // ---- input
 
-#[derive(Drop)]
+#[derive(Clone, Copy)]
 enum Status {
     Whole,
     // there is no further frame
@@ -248,7 +249,7 @@ enum Status {
 }
 
 // The next frame: how many bytes of the buffer it has, none unless it is whole.
-#[derive(Drop)]
+#[derive(Clone, Copy)]
 struct Frame {
     status: Status,
     bytes: usize,

@@ -1,4 +1,5 @@
 // Whole runs of the log program's machine. Nothing is computed here: the contract is the theorem, cited so that it cannot be left out.
+#![tactic(auto)]
 ghost use Rattle.runs.specs.Whole.{WholeRuns};
 
 // What a run writes is the log of its input, and it ends.

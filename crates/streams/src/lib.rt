@@ -1,4 +1,5 @@
 // What the record streams of the six kinds share: the states, the records, a delta and how it changes a value.
+#![tactic(auto)]
 ghost use Rattle.std.specs.Prelude.{◌≡◌, ◌≤◌, length};
 ghost use Rattle.rules.specs.Rule.{read_at};
 ghost use Rattle.common.specs.Bytes.{order_of};
@@ -12,18 +13,18 @@ use error::Stopped;
 use floats::{f64_from_i16, f64_from_i32};
 
 // Counts still due, never one for another.
-#[derive(Drop)]
+#[derive(Clone, Copy)]
 pub struct Scans(pub usize);
 
-#[derive(Drop)]
+#[derive(Clone, Copy)]
 pub struct Points(pub usize);
 
-#[derive(Drop)]
+#[derive(Clone, Copy)]
 pub struct Bytes(pub usize);
 
 // Times in minutes, wavelengths in nanometres. A point of a scan has the scan's stored time too, in whole minutes and the
 // milliseconds left over.
-#[derive(Drop)]
+#[derive(Clone, Copy)]
 pub enum Record {
     Trace {
         time: f64,
@@ -51,7 +52,7 @@ pub enum Record {
 // ---- the states, in the order of the Rust's files. The stored time stands first: in a place where other kinds have a double it
 // would keep their doubles out of the registers.
 
-#[derive(Drop)]
+#[derive(Clone, Copy)]
 pub struct ChemstationFidState {
     // of the record before, in minutes
     pub cur_time: f64,
@@ -64,7 +65,7 @@ pub struct ChemstationFidState {
     pub offset_correction: f64,
 }
 
-#[derive(Drop)]
+#[derive(Clone, Copy)]
 pub struct ChemstationMsState {
     // of the scan as stored, in milliseconds
     pub stored_time: u32,
@@ -75,7 +76,7 @@ pub struct ChemstationMsState {
     pub cur_intensity: f64,
 }
 
-#[derive(Drop)]
+#[derive(Clone, Copy)]
 pub struct ChemstationMwdState {
     pub n_wvs_left: Points,
     // of the record before, in minutes
@@ -87,7 +88,7 @@ pub struct ChemstationMwdState {
     pub offset_correction: f64,
 }
 
-#[derive(Drop)]
+#[derive(Clone, Copy)]
 pub struct ChemstationDadState {
     // of the scan as stored, in milliseconds
     pub stored_time: u32,
@@ -102,7 +103,7 @@ pub struct ChemstationDadState {
     pub wv_step: f64,
 }
 
-#[derive(Drop)]
+#[derive(Clone, Copy)]
 pub struct ChemstationUvState {
     // of the scan as stored, in milliseconds
     pub stored_time: u32,
@@ -119,13 +120,13 @@ pub struct ChemstationUvState {
 }
 
 // How an array's numbers are stored.
-#[derive(Drop)]
+#[derive(Clone, Copy)]
 pub enum ChemstationArrayRecordType {
     Float32Array,
     Float64Array,
 }
 
-#[derive(Drop)]
+#[derive(Clone, Copy)]
 pub struct ChemstationArrayState {
     pub record_type: ChemstationArrayRecordType,
     pub n_scans_left: Scans,
@@ -138,7 +139,7 @@ pub struct ChemstationArrayState {
 }
 
 // The state of a kind under the plain reading; DAD and UV under the atlas reading too.
-#[derive(Drop)]
+#[derive(Clone, Copy)]
 pub enum State {
     Fid(ChemstationFidState),
     Ms(ChemstationMsState),
@@ -151,7 +152,7 @@ pub enum State {
 }
 
 // How a run is read: as the original reads it, or by the press's rule that a scan is spent when its last point has been given.
-#[derive(Drop)]
+#[derive(Clone, Copy)]
 pub enum Mode {
     Plain,
     Atlas,
@@ -174,7 +175,7 @@ pub fn atlas_of(st: State) -> State
 }
 
 // What Next record answers.
-#[derive(Drop)]
+#[derive(Clone, Copy)]
 pub enum Next {
     // a record, the state after it and the count of bytes that it took
     Given(Record, State, usize),
@@ -208,14 +209,14 @@ pub fn trace_point(time: f64, value: f64, mult: f64, offset: f64) -> Record
 // ---- MWD, DAD and UV: a delta
 
 // A number to add, or an absolute value.
-#[derive(Drop)]
+#[derive(Clone, Copy)]
 pub enum Delta {
     By(i16),
     Absolute(i32),
 }
 
 // A delta at a position and the position after it, or why there is none.
-#[derive(Drop)]
+#[derive(Clone, Copy)]
 pub enum DeltaAt {
     Read(Delta, usize),
     Stopped(Stopped),

@@ -1,4 +1,5 @@
 // Values added up in whole numbers: one value more, and what is so of every column.
+#![tactic(auto)]
 ghost use Rattle.std.specs.Prelude.{◌≡◌, ◌+ℤ◌, if◌then◌else◌};
 ghost use Rattle.sums.specs.declared.Counted.TheVariants as counted;
 ghost use Rattle.sums.specs.Sums.{counts, whole_of, amount, plus as plus_of, TotalsAreSums};
@@ -6,7 +7,7 @@ ghost use Rattle.sums.specs.Sums.{counts, whole_of, amount, plus as plus_of, Tot
 use error::Refusal;
 
 // What values add up to.
-#[derive(Drop)]
+#[derive(Clone, Copy)]
 pub enum Total {
     // nothing is added up
     Absent,
@@ -15,7 +16,7 @@ pub enum Total {
 }
 
 // A value as a whole number below 2^53 in size.
-#[derive(Drop)]
+#[derive(Clone, Copy)]
 enum Counted {
     As(i64),
     Not,

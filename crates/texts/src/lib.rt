@@ -1,4 +1,5 @@
 // All eight texts of a run at once: it is opened once, and they stand one behind the other in one lent buffer.
+#![tactic(auto)]
 ghost use Rattle.std.specs.Prelude.{◌≡◌, true, List, [], map, ℕ, ◌+◌, ◌-◌, ◌≤◌, ◌<◌, leb, length, get_or, replicate};
 ghost use Rattle.std.proofs.Math.Seq.{paste};
 ghost use denote.Triple.Both.{Both};
@@ -18,14 +19,14 @@ use utf16::{Recoded, measured, recode};
 use written::{Written, put};
 
 // The answer, and beside it how many units of each text were replaced by U+FFFD: 0s where they are refused.
-#[derive(Drop)]
+#[derive(Clone, Copy)]
 pub struct FetchedTexts {
     pub answer: Fetched,
     pub replaced: [usize; 8],
 }
 
 // Where the texts start in the lent buffer, their lengths, the units replaced in each, and the bytes that they take together.
-#[derive(Drop)]
+#[derive(Clone, Copy)]
 struct Laid {
     pub starts: [usize; 8],
     pub lengths: [usize; 8],

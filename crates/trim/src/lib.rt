@@ -1,4 +1,6 @@
 // UTF-8 with its white space trimmed.
+#![tactic(auto)]
+
 ghost use Rattle.std.specs.Prelude.{◌≡◌, List, ℕ, ◌+◌, ◌≤◌, ◌<◌, length, drop};
 ghost use Rattle.utf8.specs.Utf8.{decode};
 ghost use Rattle.trim.specs.WhiteSpace.{white, leading, trim_end, trimmed_of, mark_of, trimmed_from, ascii_prefix, Means};
@@ -6,18 +8,18 @@ ghost use Rattle.trim.specs.WhiteSpace.{white, leading, trim_end, trimmed_of, ma
 use utf8::{Front, front_at, wide, within};
 
 // A range of code points, with both its ends.
-#[derive(Drop)]
+#[derive(Clone, Copy)]
 struct Span(pub u32, pub u32);
 
 // Where a text stands once it is trimmed: its start and its count of bytes. A text of white space alone stands at its end.
-#[derive(Drop)]
+#[derive(Clone, Copy)]
 pub enum Trimmed {
     NotUtf8,
     At(usize, usize),
 }
 
 // Where the white space at the start ends, and where the last scalar that is none does.
-#[derive(Drop)]
+#[derive(Clone, Copy)]
 struct Mark {
     pub start: usize,
     pub end: usize,

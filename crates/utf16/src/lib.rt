@@ -1,4 +1,5 @@
 // UTF-16 made into UTF-8, in a lent buffer.
+#![tactic(auto)]
 ghost use Rattle.std.specs.Prelude.{◌≡◌, List, ◌++◌, ℕ, ◌+◌, ◌≤◌, ◌<◌, leb, length, drop};
 ghost use Rattle.std.proofs.Math.Seq.{paste};
 ghost use Rattle.utf8.specs.Utf8.{encode, six, Utf8};
@@ -10,7 +11,7 @@ use utf8::{wide, within};
 use written::Written;
 
 // A scalar, how many bytes of UTF-16 it takes, and how many units of these were replaced by it: one or none.
-#[derive(Drop)]
+#[derive(Clone, Copy)]
 struct Piece {
     pub scalar: u32,
     pub width: usize,
@@ -18,14 +19,14 @@ struct Piece {
 }
 
 // The bytes of UTF-8 that were put, and the units that were replaced on the way.
-#[derive(Drop)]
+#[derive(Clone, Copy)]
 pub struct Recoded {
     pub bytes: usize,
     pub replaced: usize,
 }
 
 // What was written, and how many units were replaced in it.
-#[derive(Drop)]
+#[derive(Clone, Copy)]
 pub struct Decoding {
     pub answer: Written,
     pub replaced: usize,

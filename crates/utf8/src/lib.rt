@@ -1,9 +1,11 @@
 // UTF-8: the scalar that bytes begin with.
+#![tactic(auto)]
+
 ghost use Rattle.std.specs.Prelude.{◌≡◌, ◌↔◌, List, ℕ, ◌≤◌, ◌<◌, length, get_or, drop};
 ghost use Rattle.utf8.specs.Utf8.{within, low, high, second, follows, more, longer, front_of, front_in, encodes, Scalars, Utf8, decode, text};
 
 // The scalar at the front of some bytes, and how many of them it takes.
-#[derive(Drop)]
+#[derive(Clone, Copy)]
 pub enum Front {
     IllFormed,
     Char(u32, usize),

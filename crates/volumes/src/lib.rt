@@ -1,4 +1,5 @@
 // The run date of a file, and whether it lies in a window of time.
+#![tactic(auto)]
 ghost use Rattle.std.specs.Prelude.{◌≡◌};
 ghost use Rattle.rules.specs.Rule.{gives};
 ghost use Rattle.layouts.specs.Table.{field_of};
@@ -15,7 +16,7 @@ use utf16::decode_utf16;
 use written::Written;
 
 // What is said of a file's date.
-#[derive(Drop)]
+#[derive(Clone, Copy)]
 pub enum RunDate {
     // seconds from 1 January 1969, 00:00:00
     Instant(u32),
@@ -24,7 +25,7 @@ pub enum RunDate {
 }
 
 // What is said of a file and a window.
-#[derive(Drop)]
+#[derive(Clone, Copy)]
 pub enum Placed {
     Inside,
     Outside,

@@ -1,0 +1,16 @@
+-- Each turn finds one byte of ASCII more.
+use Prim.Native.Nat.{◌-◌}
+use native.Mathlib.Omega.{arith}
+use lib.ListN.{length}
+use borrow.Author.Rules.{rules}
+use Rattle.trim.proofs.Ascii.{Prefix, prefix_starts, prefix_on, prefix_ends, prefix_done}
+use Rattle.trim.proofs.ascii_prefix.Goals as goal
+
+pub returns-then-s-i-gt127 : goal.returns-then-s-i-gt127
+returns-then-s-i-gt127 c = prefix_ends _ c.loop-i.i c.loop-i.invariant c.loop-i-test.true c.if-s-i-gt127.true
+
+pub loop-i-preserved : goal.loop-i-preserved
+loop-i-preserved c = prefix_on _ c.loop-i.i c.loop-i.invariant c.loop-i-test.true c.if-s-i-gt127.false
+
+pub returns : goal.returns
+returns c = prefix_done _ c.loop-i.i c.loop-i.invariant c.loop-i-test.false
