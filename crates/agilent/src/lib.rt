@@ -1,5 +1,6 @@
 // Size the header (the Rust's agilent/mod.rs).
 #![tactic(auto)]
+
 ghost use Rattle.std.specs.Prelude.{◌≡◌, ◌<◌};
 ghost use Rattle.rules.specs.Rule.{read};
 ghost use Rattle.agilent.specs.Header.{size_of, size_rule, size_read};

@@ -1,5 +1,6 @@
 // Array: a stream of stored doubles or floats.
 #![tactic(auto)]
+
 ghost use Rattle.std.specs.Prelude.{◌≡◌, [], ◌<◌};
 ghost use Rattle.rules.specs.Rule.{got, read};
 ghost use Rattle.streams.specs.Told.{told};

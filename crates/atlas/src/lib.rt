@@ -1,5 +1,6 @@
 // The atlas reading of DAD and UV: a scan is spent when its last point has been given.
 #![tactic(auto)]
+
 ghost use Rattle.std.specs.Prelude.{◌≡◌};
 ghost use Rattle.rules.specs.Rule.{map_read};
 ghost use Rattle.streams.specs.Next.{answer_of};

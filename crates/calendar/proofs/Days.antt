@@ -140,6 +140,7 @@ all_some = refl
 -- each month has a first day, and there is none behind the twelfth
 pub first_day : (y m : ℕ) → 1 ≤ m → m ≤ 12 → is_day y m 1 ≡ true
 unfolding is_day days_in
+first_day y zero l h = absurd (omega arith)
 first_day y (suc m) l h = inside 1 (days_in y (suc m)) 1 (omega arith) (omega (arith, leb-true 1 (get_or common_days (suc m) 0) (each some 12 all_some m (omega arith))))
 
 pub a_month : (y m d : ℕ) → is_day y m d ≡ true → m ≤ 12

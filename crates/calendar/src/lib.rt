@@ -1,5 +1,6 @@
 // Days of the Gregorian calendar from 1969 to 2068, and instants: whole seconds from 1 January 1969, 00:00:00.
 #![tactic(auto)]
+
 ghost use Rattle.std.specs.Prelude.{◌≡◌, ◌≤◌, ◌<◌};
 ghost use Rattle.calendar.specs.Calendar.{leap, days_in, before_month, of_years, day_number, is_day, instant_of, Printed, InRange, CalendarDays};
 

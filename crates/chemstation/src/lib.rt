@@ -1,5 +1,6 @@
 // Next record over all kinds and readings.
 #![tactic(auto)]
+
 ghost use Rattle.std.specs.Prelude.{◌≡◌};
 ghost use Rattle.rules.specs.Rule.{read};
 ghost use Rattle.streams.specs.Next.{rule_by, answer_of};

@@ -1,5 +1,6 @@
 // The four forms in which a run date is written, and the instant that it names.
 #![tactic(auto)]
+
 ghost use Rattle.std.specs.Prelude.{◌≡◌, false, ◌+◌, ◌≤◌, ◌<◌, length, get_or};
 ghost use Rattle.items.specs.declared.Item.TheVariants.{Sign};
 ghost use Rattle.dates.specs.Grammar.{FourForms};

@@ -1,5 +1,6 @@
 // Numbers as text, decimal and hexadecimal, put into lent memory.
 #![tactic(auto)]
+
 ghost use Rattle.std.specs.Prelude.{◌+◌, ◌^◌, ◌≤◌, ◌<◌, ◌≡◌, [], ◌∷◌, length, nat_abs};
 ghost use Rattle.common.specs.Bytes.{le};
 ghost use Rattle.digits.specs.Put.{Put};

@@ -1,5 +1,6 @@
 // FID: the record stream of a flame ionization detector.
 #![tactic(auto)]
+
 ghost use Rattle.std.specs.Prelude.{◌≡◌, ◌∷◌, []};
 ghost use Rattle.rules.specs.Rule.{got, read};
 ghost use Rattle.streams.specs.Changes.{slopes, restarts};

@@ -1,5 +1,6 @@
 // What stands in a form of a date, item by item: characters, numbers, names of months, am and pm.
 #![tactic(auto)]
+
 ghost use Rattle.std.specs.Prelude.{◌≡◌, ◌&&◌, eqb, get_or};
 ghost use Rattle.items.specs.declared.Item.TheVariants.{Sign, Two, OneOrTwo, MonthName, HalfDay, PlusMinus};
 ghost use Rattle.items.specs.Items.{is_digit, lower, starts, ranged, two, one_or_two, month_named, half, stands_at};

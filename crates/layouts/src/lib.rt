@@ -1,5 +1,6 @@
 // What stands where in a header, by the edition.
 #![tactic(auto)]
+
 ghost use Rattle.std.specs.Prelude.{◌≡◌, ℕ};
 ghost use Rattle.layouts.specs.Table.{field_of};
 ghost use Rattle.layouts.specs.Layouts.{layout_of, field_by};

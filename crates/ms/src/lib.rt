@@ -1,5 +1,6 @@
 // MS: the record stream of a mass spectrometer.
 #![tactic(auto)]
+
 ghost use Rattle.std.specs.Prelude.{◌≡◌, ◌-◌, ◌≤◌, ◌<◌, ◌+◌, ◌*◌, ◌/◌, ◌%◌, ◌^◌, Float, length};
 ghost use Rattle.rules.specs.Rule.{got, read, read_at, map_read};
 ghost use Rattle.common.specs.Bytes.{be, part};

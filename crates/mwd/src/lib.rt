@@ -1,5 +1,6 @@
 // MWD: the record stream of a multiple wavelength detector.
 #![tactic(auto)]
+
 ghost use Rattle.std.specs.Prelude.{◌≡◌, ◌≤◌, ◌<◌, length};
 ghost use Rattle.rules.specs.Rule.{got, read, read_at, map_read};
 ghost use Rattle.floats.specs.Wholes.{doubles, flat};

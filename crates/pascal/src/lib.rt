@@ -1,5 +1,6 @@
 // Texts behind a length byte (the Rust's get_pascal and get_utf16_pascal): where they stand in a header.
 #![tactic(auto)]
+
 ghost use Rattle.std.specs.Prelude.{◌≡◌, ◌+◌, ◌≤◌, ◌<◌, length};
 ghost use Rattle.rules.specs.Rule.{gives};
 ghost use Rattle.pascal.specs.Texts.{reach, place_at, pascal, utf16_pascal, text_rule, place_rule};

@@ -1,5 +1,6 @@
 // What the record streams of the six kinds share: the states, the records, a delta and how it changes a value.
 #![tactic(auto)]
+
 ghost use Rattle.std.specs.Prelude.{◌≡◌, ◌≤◌, length};
 ghost use Rattle.rules.specs.Rule.{read_at};
 ghost use Rattle.common.specs.Bytes.{order_of};

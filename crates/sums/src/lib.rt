@@ -1,5 +1,6 @@
 // Values added up in whole numbers: one value more, and what is so of every column.
 #![tactic(auto)]
+
 ghost use Rattle.std.specs.Prelude.{◌≡◌, ◌+ℤ◌, if◌then◌else◌};
 ghost use Rattle.sums.specs.declared.Counted.TheVariants as counted;
 ghost use Rattle.sums.specs.Sums.{counts, whole_of, amount, plus as plus_of, TotalsAreSums};

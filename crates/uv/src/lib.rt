@@ -1,5 +1,6 @@
 // UV: the record stream of an ultraviolet detector.
 #![tactic(auto)]
+
 ghost use Rattle.std.specs.Prelude.{◌≡◌, [], ◌≤◌, ◌<◌, length};
 ghost use Rattle.rules.specs.Rule.{got, read, read_at, map_read};
 ghost use Rattle.floats.specs.Wholes.{doubles, flat};

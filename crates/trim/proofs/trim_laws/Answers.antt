@@ -3,4 +3,4 @@ use Rattle.trim.proofs.Stands.{means}
 use Rattle.trim.proofs.trim_laws.Goals as goal
 
 pub returns : goal.returns
-returns c = means
+returns c = record { trims = means }

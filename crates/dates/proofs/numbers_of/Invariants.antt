@@ -1,0 +1,16 @@
+-- The items are walked one after the other.
+use mathlib.Core.Path.{◌≡◌, refl, sym}
+use Prim.Native.Nat.{◌-◌, ◌<◌}
+use native.Mathlib.Omega.{arith}
+use mathlib.Core.Logic.{⊎_elim}
+use lib.ListN.{length}
+use borrow.Author.Rules.{rules}
+use Rattle.dates.proofs.Walk.{Walked, begun, not_found, on_passed, on_value, ended, most_items}
+use Rattle.dates.specs.Dates.{items_of}
+use Rattle.dates.proofs.numbers_of.Given as goal
+
+abbrev pub invariant-loop-k : goal.invariant-loop-k
+invariant-loop-k l = (l.items ≡ length (items_of l.f)) × Walked (items_of l.f) l.t l.values l.n l.at l.k
+
+abbrev pub decreases-loop-k : goal.decreases-loop-k
+decreases-loop-k l = l.items - l.k

@@ -1,0 +1,11 @@
+-- A byte at a time.
+use native.Mathlib.Omega.{arith}
+use borrow.Author.Rules.{rules}
+use Rattle.digits.proofs.Words.{Putting, putting_start, putting_turn, putting_done}
+use Rattle.digits.proofs.put_word.Given as goal
+
+abbrev pub invariant-loop-left : goal.invariant-loop-left
+invariant-loop-left l = Putting l.n l.initial.out l.at l.out l.a l.rest l.left
+
+abbrev pub decreases-loop-left : goal.decreases-loop-left
+decreases-loop-left l = l.left

@@ -1,0 +1,8 @@
+-- Behind the end nothing stands.
+use mathlib.Core.Path.{sym}
+use lib.ListN.{get_or-eq_default}
+use borrow.Author.Rules.{rules}
+use Rattle.items.proofs.char_at.Goals as goal
+
+pub returns : goal.returns
+returns c = sym (get_or-eq_default c.args.t.now 0 c.if-at-t.false)

@@ -1,0 +1,6 @@
+-- The record and the state are what the definition makes of the value.
+use borrow.Author.Rules.{rules}
+use Rattle.mwd.proofs.mwd_given.Goals as goal
+
+pub returns : goal.returns
+returns c = rw c.trace_point-record.ensures

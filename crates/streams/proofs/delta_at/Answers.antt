@@ -1,0 +1,34 @@
+-- Each answer is what the rule of a delta reads of the bytes that are there, in the order that is passed along.
+use mathlib.Core.Path.{◌≡◌, refl, sym, ap, ◌∙◌}
+use mir.Syntax.{w16, w32}
+use mir.Val.{to_z, of_z}
+use native.Mathlib.Omega.{arith}
+use borrow.Author.Rules.{rules}
+use Prim.Native.Nat.{◌+◌}
+use Rattle.rules.specs.Rule.{got, stops}
+use Rattle.common.specs.Bytes.{order_of}
+use Rattle.streams.specs.declared.Delta.TheVariants.{By, Absolute}
+use Rattle.streams.proofs.Ints.{is_int_lem, is_no_int}
+use Rattle.streams.proofs.DeltaLaws.{delta_by, delta_absolute, delta_cut, delta_absolute_cut}
+use Rattle.streams.proofs.delta_at.Goals as goal
+
+pub returns-then-s-at-lt2 : goal.returns-then-s-at-lt2
+returns-then-s-at-lt2 c =
+    ap stops c.cut.ensures ∙ sym (delta_cut (order_of c.args.order) c.args.last c.args.at c.args.s.now (omega arith) (omega arith))
+
+pub returns-then-v : goal.returns-then-v
+returns-then-v c =
+    let v = is_no_int w16 32768 c.i16_in-v.ensures refl c.if-v.true in
+    let back : to_z w16 (of_z w16 c.i16_in-v.result) ≡ c.i16_in-v.result = search rules in
+    ap (λ z. got (By z) (c.args.at + 2)) (back ∙ c.i16_in-v.ensures) ∙ sym (delta_by (order_of c.args.order) c.args.last c.args.at c.args.s.now (omega arith) v)
+
+pub returns-then-s-at-lt6 : goal.returns-then-s-at-lt6
+returns-then-s-at-lt6 c =
+    let v = is_int_lem w16 32768 c.i16_in-v.ensures (search rules) c.if-v.false in
+    ap stops c.cut-then-s-at-lt6.ensures ∙ sym (delta_absolute_cut (order_of c.args.order) c.args.last c.args.at c.args.s.now (omega arith) (omega arith) v)
+
+pub returns : goal.returns
+returns c =
+    let v = is_int_lem w16 32768 c.i16_in-v.ensures (search rules) c.if-v.false in
+    let back : to_z w32 (of_z w32 c.i32_in.result) ≡ c.i32_in.result = search rules in
+    ap (λ z. got (Absolute z) (c.args.at + 6)) (back ∙ c.i32_in.ensures) ∙ sym (delta_absolute (order_of c.args.order) c.args.last c.args.at c.args.s.now (omega arith) v)
