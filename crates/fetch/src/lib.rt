@@ -1,5 +1,6 @@
 // Fetch a text: its UTF-8, straight from the header's bytes to the lent buffer, through no other array.
 #![tactic(auto)]
+
 ghost use Rattle.std.specs.Prelude.{◌≡◌, true, ◌&&◌, List, ℕ, ◌≤◌, ◌<◌, leb, length, get_or};
 ghost use Rattle.rules.specs.Rule.{gives, finished, got, read};
 ghost use Rattle.error.specs.Number.{number_of, stop_of};

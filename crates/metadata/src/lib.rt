@@ -1,5 +1,6 @@
 // What a header says (the Rust's metadata.rs): numbers, where its eight texts stand, and the scans due.
 #![tactic(auto)]
+
 ghost use Rattle.std.specs.Prelude.{◌≡◌, List, ℕ, ◌+◌, ◌≤◌, ◌<◌, length};
 ghost use Rattle.rules.specs.Rule.{stops, read};
 ghost use Rattle.error.specs.Number.{stop_of};

@@ -1,5 +1,6 @@
 // Open over all kinds: the header, what it says, and the state before the first record.
 #![tactic(auto)]
+
 ghost use Rattle.std.specs.Prelude.{◌≡◌, ◌+◌, ◌≤◌, length};
 ghost use Rattle.common.specs.Bytes.{part};
 ghost use Rattle.opening.specs.Opening.{same_bytes, record_type, fid_begins, ms_begins, mwd_begins, dad_begins, uv_begins, array_begins, begins, OpensRun};

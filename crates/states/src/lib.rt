@@ -1,5 +1,6 @@
 // A state as numbers that a caller keeps, six doubles, four counts, a stored time and the reading, and the numbers as a state.
 #![tactic(auto)]
+
 ghost use Rattle.std.specs.Prelude.{◌≡◌};
 ghost use Rattle.streams.specs.Next.{stored_of};
 ghost use Rattle.states.specs.State.{dad_numbers, uv_numbers, dad_counts, uv_counts, numbers_of, type_number, counts_of, reading_of, type_at, fid_from, ms_from, mwd_from, dad_from, uv_from, array_from, state_of, atlas_state, atlas_kept, state_by, KeepsStates};

@@ -4,6 +4,7 @@
 // The numbers: 4503599627370496 is 2^52, 9007199254740992 is 2^53, between which each double is a whole number and each whole number a
 // double; 6755399441055744 is their middle; 4611686018427387904 is 2^62.
 #![tactic(auto)]
+
 ghost use Rattle.std.specs.Prelude.{◌≡◌};
 ghost use Rattle.sums.specs.Sums.{total_from};
 ghost use Rattle.tally.specs.Tally.{beside_of, exactly, joined, is_amount, start_of, added_to, total_of};

@@ -28,4 +28,4 @@ returns-in-Array c = c.array_next.ensures ∙ by_state c.args.last c.args.s.now 
 
 pub returns-in_default : goal.returns-in_default
 returns-in_default c =
-    c.spectrum_next.ensures ∙ ap (λ f. read c.args.last (rule_by c.args.st f) c.args.s.now) (of_spectra c.args.st c.in-Fid.keys5)
+    c.spectrum_next.ensures ∙ ap (λ f. read c.args.last (rule_by c.args.st f) c.args.s.now) (of_spectra c.args.st c.in_default.in_default-own.keys5)

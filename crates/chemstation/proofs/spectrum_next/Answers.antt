@@ -2,6 +2,7 @@
 use mathlib.Core.Path.{sym, ap, ◌∙◌, subst}
 use borrow.Author.Rules.{rules}
 use types.Run.{OneOf}
+use borrow.Enum.Refused.{opened}
 use denote.Enum.Declared.{tag_of}
 use mathlib.Core.List.{[], ◌∷◌}
 use Rattle.rules.specs.Rule.{map_read}
@@ -22,4 +23,4 @@ returns-in-Uv c =
 
 pub returns-in_default : goal.returns-in_default
 returns-in_default c =
-    others_end c.args.last c.args.s.now c.args.st (subst (λ y. OneOf (0 ∷ 1 ∷ 2 ∷ 5 ∷ 6 ∷ 7 ∷ []) (tag_of the_type y)) c.plain_of.ensures c.in-Dad.keys3)
+    others_end c.args.last c.args.s.now c.args.st (subst (λ y. OneOf (0 ∷ 1 ∷ 2 ∷ 5 ∷ 6 ∷ 7 ∷ []) (tag_of the_type y)) c.plain_of.ensures (opened c.in_default.in_default-own.keys3))

@@ -13,7 +13,7 @@ pub overflow_sub-others : goal.overflow_sub-others
 overflow_sub-others c = (counting_turn _ c.loop-rest-test.true c.loop-rest.invariant).0
 
 pub loop-rest-smaller : goal.loop-rest-smaller
-loop-rest-smaller c = omega (arith, sub-others c)
+loop-rest-smaller c = omega (arith, overflow_sub-others c)
 
 pub loop-rest-preserved : goal.loop-rest-preserved
 loop-rest-preserved c = (counting_turn _ c.loop-rest-test.true c.loop-rest.invariant).1

@@ -16,5 +16,4 @@ recode-r-requires c = leb-true _ _ (yes c.has_room.ensures c.if-not-has_room.fal
 
 pub returns : goal.returns
 returns c =
-    let r = (c.recode-r.ensures.bytes, c.recode-r.ensures.replaced) in
     record { written = puts c.args.out.now _ (utf8_of c.args.src.now) _ c.recode-r.ensures.bytes.0 (leb-true _ _ (yes c.has_room.ensures c.if-not-has_room.false-raw)) c.recode-r.ensures.bytes.1; replaced = c.recode-r.ensures.replaced }

@@ -1,0 +1,26 @@
+-- By the kind.
+use mathlib.Core.Path.{sym, ap, ◌∙◌}
+use borrow.Author.Rules.{rules}
+use Rattle.states.specs.State.{counts_of}
+use Rattle.states.proofs.counts_of.Goals as goal
+
+pub returns-in-Ms : goal.returns-in-Ms
+returns-in-Ms c = sym (ap counts_of c.in-Ms.is)
+
+pub returns-in-Mwd : goal.returns-in-Mwd
+returns-in-Mwd c = sym (ap counts_of c.in-Mwd.is)
+
+pub returns-in-Dad : goal.returns-in-Dad
+returns-in-Dad c = c.dad_counts.ensures ∙ sym (ap counts_of c.in-Dad.is)
+
+pub returns-in-Uv : goal.returns-in-Uv
+returns-in-Uv c = c.uv_counts.ensures ∙ sym (ap counts_of c.in-Uv.is)
+
+pub returns-in-Array : goal.returns-in-Array
+returns-in-Array c = rw c.type_number.ensures (sym (ap counts_of c.in-Array.is))
+
+pub returns-in-AtlasDad : goal.returns-in-AtlasDad
+returns-in-AtlasDad c = c.dad_counts-in-AtlasDad.ensures ∙ sym (ap counts_of c.in-AtlasDad.is)
+
+pub returns-in-AtlasUv : goal.returns-in-AtlasUv
+returns-in-AtlasUv c = c.uv_counts-in-AtlasUv.ensures ∙ sym (ap counts_of c.in-AtlasUv.is)
