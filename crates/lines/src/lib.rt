@@ -1,5 +1,6 @@
 // The lines of a log, put into lent memory.
 #![tactic(auto)]
+
 ghost use Rattle.std.specs.Prelude.{◌+◌, ◌≤◌, ◌≡◌, [], ◌∷◌, length};
 ghost use Rattle.error.specs.Number.{stop_of};
 ghost use Rattle.digits.specs.Put.{Put};

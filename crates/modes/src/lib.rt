@@ -1,5 +1,6 @@
 // Open by a reading: the plain one, or the atlas reading of DAD and UV.
 #![tactic(auto)]
+
 ghost use Rattle.std.specs.Prelude.{◌≡◌};
 ghost use Rattle.agilent.specs.Header.{known};
 ghost use Rattle.modes.specs.Modes.{has_atlas, OpensBy, NotOpened};

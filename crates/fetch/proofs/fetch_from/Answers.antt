@@ -16,7 +16,10 @@ returns-then-d-gt102 c =
 
 pub returns : goal.returns
 returns c =
-    let o = outcome_of c.answer_of-2.result in (
+    let o = outcome_of c.answer_of-2.result in record { text = ((
       c.answer_of-2.ensures _ _ _ _ (subst (Puts _ _ _) (c.text_bytes-bytes.ensures.old c.if-d-gt102.false) c.copy_text.ensures),
       passes_none o ∙ ap (passed_on o) (old_units c.args.k c.args.d.edition c.args.h.now c.if-d-gt102.false),
-    )
+    )).0; replaced = ((
+      c.answer_of-2.ensures _ _ _ _ (subst (Puts _ _ _) (c.text_bytes-bytes.ensures.old c.if-d-gt102.false) c.copy_text.ensures),
+      passes_none o ∙ ap (passed_on o) (old_units c.args.k c.args.d.edition c.args.h.now c.if-d-gt102.false),
+    )).1 }

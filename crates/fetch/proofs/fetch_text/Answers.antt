@@ -11,11 +11,10 @@ use Rattle.fetch.proofs.Fetches.{fetch_unknown, fetch_no_text, fetch_opens, answ
 use Rattle.fetch.proofs.fetch_text.Goals as goal
 
 pub returns-then-not-in_range : goal.returns-then-not-in_range
-returns-then-not-in_range c = passes_refusal _ _ _ _ _ c.refused.ensures (fetch_unknown _ _ _ (no c.in_range.ensures c.if-not-in_range.true-raw)) refl
+returns-then-not-in_range c = record { text = (passes_refusal _ _ _ _ _ c.refused.ensures (fetch_unknown _ _ _ (no c.in_range.ensures c.if-not-in_range.true-raw)) refl).0; replaced = (passes_refusal _ _ _ _ _ c.refused.ensures (fetch_unknown _ _ _ (no c.in_range.ensures c.if-not-in_range.true-raw)) refl).1 }
 
 pub returns-then-not-in_range-2 : goal.returns-then-not-in_range-2
-returns-then-not-in_range-2 c =
-    passes_refusal _ _ _ _ _ c.refused-then-not-in_range-2.ensures (fetch_no_text _ _ _ (yes c.in_range.ensures c.if-not-in_range.false-raw) (no c.in_range-2.ensures c.if-not-in_range-2.true-raw)) refl
+returns-then-not-in_range-2 c = record { text = (passes_refusal _ _ _ _ _ c.refused-then-not-in_range-2.ensures (fetch_no_text _ _ _ (yes c.in_range.ensures c.if-not-in_range.false-raw) (no c.in_range-2.ensures c.if-not-in_range-2.true-raw)) refl).0; replaced = (passes_refusal _ _ _ _ _ c.refused-then-not-in_range-2.ensures (fetch_no_text _ _ _ (yes c.in_range.ensures c.if-not-in_range.false-raw) (no c.in_range-2.ensures c.if-not-in_range-2.true-raw)) refl).1 }
 
 pub refusal_of-requires : goal.refusal_of-requires
 refusal_of-requires c = never_finished _ _ _ _ c.open_header-o.ensures c.in-Stopped.is
@@ -32,11 +31,13 @@ fetch_from-requires c =
     (omega (arith, most 1 8 n (yes c.in_range-2.ensures c.if-not-in_range-2.false-raw)), (fits _ _ _ _ c.open_header-o.ensures c.in-Header.is).0.described)
 
 pub returns-in-Stopped : goal.returns-in-Stopped
-returns-in-Stopped c =
-    passes_refusal _ _ _ _ _ c.refused-in-Stopped.ensures
+returns-in-Stopped c = record { text = (passes_refusal _ _ _ _ _ c.refused-in-Stopped.ensures
     (fetch_opens _ _ _ (yes c.in_range.ensures c.if-not-in_range.false-raw) (yes c.in_range-2.ensures c.if-not-in_range-2.false-raw)
     ∙ ap (map_read _) (read_stopped _ _ _ _ c.open_header-o.ensures c.in-Stopped.is))
-    c.refusal_of.ensures
+    c.refusal_of.ensures).0; replaced = (passes_refusal _ _ _ _ _ c.refused-in-Stopped.ensures
+    (fetch_opens _ _ _ (yes c.in_range.ensures c.if-not-in_range.false-raw) (yes c.in_range-2.ensures c.if-not-in_range-2.false-raw)
+    ∙ ap (map_read _) (read_stopped _ _ _ _ c.open_header-o.ensures c.in-Stopped.is))
+    c.refusal_of.ensures).1 }
 
 pub returns-in-Header : goal.returns-in-Header
 returns-in-Header c =

@@ -14,6 +14,7 @@ use lib.Ieee.Bits.{is_true}
 use Rattle.tally.specs.Tally.{roomy}
 use Rattle.tally.proofs.Laws.{roomy_is, roomy_of}
 use Rattle.tally.proofs.beside.Goals as goal
+use Rattle.tally.proofs.beside.Goals.{else-a-geminus4611686018427387904-via-then-a-geminus4611686018427387904+else-a-le4611686018427387904, else-a-geminus4611686018427387904-via-else-a-geminus4611686018427387904}
 
 pub returns-in-Absent : goal.returns-in-Absent
 unfolding of_bits div
@@ -27,25 +28,23 @@ pub returns-then-a-le4611686018427387904 : goal.returns-then-a-le461168601842738
 unfolding of_bits of_int
 returns-then-a-le4611686018427387904 c =
     let a : ℤ = c.in-Amount.a in
-    let e : to_z w64 (of_z w64 a) ≡ a = to_z-of_z (sfits_of c.known_told-1.given.0.1) in
+    let e : to_z w64 (of_z w64 a) ≡ a = to_z-of_z {w = w64} (sfits_of c.in-Amount.known_told-1-own.given.0.1) in
     let low : le_z (negsuc (2 ^ 62 - 1)) (to_z w64 (of_z w64 a)) ≡ true = c.if-a-geminus4611686018427387904.true in
     let high : le_z (to_z w64 (of_z w64 a)) (pos (2 ^ 62)) ≡ true = c.if-a-le4611686018427387904.true in
     rw (c.in-Amount.is, is_true (roomy a) (roomy_of a (rw e at low) (rw e at high))) refl
 
-not_roomy : (c : goal.Joined-else-a-geminus4611686018427387904) → roomy c.in-Amount.a ≡ false
-not_roomy c =
-    let a : ℤ = c.in-Amount.a in
-    let e : to_z w64 (of_z w64 a) ≡ a = to_z-of_z (sfits_of c.known_told-1.given.0.1) in
-    elim c.if-a-geminus4611686018427387904.branch [
-      | inl w ↦
-          let low : le_z (negsuc (2 ^ 62 - 1)) (to_z w64 (of_z w64 a)) ≡ true = w.0.taken in
-          let high : le_z (to_z w64 (of_z w64 a)) (pos (2 ^ 62)) ≡ false = w.1.left in
-          simp (roomy_is a, rw e at low, rw e at high)
-      | inr w ↦
-          let low : le_z (negsuc (2 ^ 62 - 1)) (to_z w64 (of_z w64 a)) ≡ false = w.left in
-          simp (roomy_is a, rw e at low)
-    ]
-
 pub returns-else-a-geminus4611686018427387904 : goal.returns-else-a-geminus4611686018427387904
 unfolding of_bits div
-returns-else-a-geminus4611686018427387904 c = rw (c.in-Amount.is, not_roomy c) refl
+returns-else-a-geminus4611686018427387904 c =
+    let a : ℤ = c.in-Amount.a in
+    let e : to_z w64 (of_z w64 a) ≡ a = to_z-of_z {w = w64} (sfits_of c.in-Amount.known_told-1-own.given.0.1) in
+    let not_roomy : roomy a ≡ false = elim c.else-a-geminus4611686018427387904.branch [
+      | else-a-geminus4611686018427387904-via-then-a-geminus4611686018427387904+else-a-le4611686018427387904 w ↦
+          let low : le_z (negsuc (2 ^ 62 - 1)) (to_z w64 (of_z w64 a)) ≡ true = w.if-a-geminus4611686018427387904.true in
+          let high : le_z (to_z w64 (of_z w64 a)) (pos (2 ^ 62)) ≡ false = w.if-a-le4611686018427387904.false in
+          simp (roomy_is a, rw e at low, rw e at high)
+      | else-a-geminus4611686018427387904-via-else-a-geminus4611686018427387904 w ↦
+          let low : le_z (negsuc (2 ^ 62 - 1)) (to_z w64 (of_z w64 a)) ≡ false = w.if-a-geminus4611686018427387904.false in
+          simp (roomy_is a, rw e at low)
+    ] in
+    rw (c.in-Amount.is, not_roomy) refl

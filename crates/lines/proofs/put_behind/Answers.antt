@@ -1,0 +1,9 @@
+-- The number and the words behind it.
+use native.Mathlib.Omega.{arith}
+use borrow.Author.Rules.{rules}
+use Rattle.digits.proofs.Puts.{put_then}
+use Rattle.lines.proofs.put_behind.Goals as goal
+
+pub returns : goal.returns
+returns c =
+    record { put = put_then c.put_number-a.ensures.0 c.put_text.ensures.count; upper_bound = omega (arith, c.put_number-a.ensures.1, c.put_text.ensures.1) }

@@ -1,0 +1,19 @@
+-- By whether it is a NaN.
+use mathlib.Core.Path.{sym, ap, ◌∙◌}
+use borrow.Author.Rules.{rules}
+use Rattle.digits.specs.Numbers.{field}
+use Rattle.lines.specs.Lines.{bits_text}
+use Rattle.digits.proofs.Puts.{put_as, put_then}
+use Rattle.lines.proofs.put_double.Goals as goal
+
+pub returns-in-Pattern : goal.returns-in-Pattern
+unfolding bits_text
+returns-in-Pattern c =
+    let is = sym c.in-Pattern.is ∙ c.f64_to_bits.ensures in
+    record { put = put_as (ap (λ b. field (bits_text b) c.args.sep) is) (put_then c.put_bits-a.ensures.0 c.put_byte.ensures); upper_bound = search rules }
+
+pub returns-in-Nan : goal.returns-in-Nan
+unfolding bits_text
+returns-in-Nan c =
+    let is = sym c.in-Nan.is ∙ c.f64_to_bits.ensures in
+    record { put = put_as (ap (λ b. field (bits_text b) c.args.sep) is) (put_then c.put_byte-a.ensures (put_then c.put_byte-b.ensures (put_then c.put_byte-c.ensures c.put_byte-in-Nan.ensures))); upper_bound = search rules }

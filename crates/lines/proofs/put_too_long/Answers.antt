@@ -1,0 +1,9 @@
+-- The words alone.
+use native.Mathlib.Omega.{arith}
+use borrow.Author.Rules.{rules}
+use Rattle.lines.specs.Left.{too_long_line}
+use Rattle.lines.proofs.put_too_long.Goals as goal
+
+pub returns : goal.returns
+unfolding too_long_line
+returns c = record { put = c.put_text.ensures.count; upper_bound = omega (arith, c.put_text.ensures.1) }
