@@ -31,8 +31,8 @@ use Rattle.sums.specs.Sums.{counts, whole_of, in64, amount, out_of_range, plus, 
 use Rattle.sums.specs.declared.Total.{Total}
 use Rattle.sums.specs.declared.Total.TheVariants.{Absent, Amount, Refused}
 use Rattle.lines.specs.Lines.{total_line, end_line}
-use Rattle.log.specs.Runs.{lines_of, unscaled}
-use Rattle.log.specs.Log.{in_buffer, Reads, one_more, no_more, header_text, first_total, foot_text, LogOf, opened_run}
+use Rattle.runlog.specs.Runs.{lines_of, unscaled}
+use Rattle.runlog.specs.Log.{in_buffer, Reads, one_more, no_more, header_text, first_total, foot_text, LogOf, opened_run}
 use Rattle.foot.specs.Foot.{added_up, AllWithin, plus_added, total_added, sum_added, OpenedLog, values_of, text_added}
 
 -- ---- a record is read the same, told not last and with all bytes at hand

@@ -20,8 +20,8 @@ use Rattle.opening.proofs.Marks.{same_is}
 use Rattle.digits.specs.Numbers.{decimal}
 use Rattle.lines.specs.Lines.{bits_text, record_line, total_line, answer_text}
 use Rattle.lines.specs.Left.{ascii}
-use Rattle.log.specs.Runs.{lines_of}
-use Rattle.log.specs.Log.{LogOf, opened_run, one_more, no_more}
+use Rattle.runlog.specs.Runs.{lines_of}
+use Rattle.runlog.specs.Log.{LogOf, opened_run, one_more, no_more}
 use Rattle.foot.specs.Foot.{AllWithin, added_up, printed_run, printed_log, some_totals, some_lines}
 
 printed_as : {t : List ℕ} → LogOf Plain 32768 1 printed_run finished t → T (same_bytes t printed_log) → LogOf Plain 32768 1 printed_run finished printed_log

@@ -17,8 +17,8 @@ use Rattle.sums.specs.declared.Total.{Total}
 use Rattle.sums.specs.declared.Total.TheVariants.{Absent, Amount, Refused}
 use Rattle.lines.specs.Lines.{total_line, end_line}
 use Rattle.lines.specs.Left.{ascii}
-use Rattle.log.specs.Runs.{lines_of, unscaled}
-use Rattle.log.specs.Log.{in_buffer, Reads, header_text, first_total, LogOf}
+use Rattle.runlog.specs.Runs.{lines_of, unscaled}
+use Rattle.runlog.specs.Log.{in_buffer, Reads, header_text, first_total, LogOf}
 
 -- ---- the added-up values
 

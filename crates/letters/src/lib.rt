@@ -1,6 +1,7 @@
 // What the number of replaced units says of a text. Nothing is computed here: the contract is the theorem, cited so that it cannot be left
 // out, about the definitions that the contracts of the decoder, of Fetch and of all texts at once name.
 #![tactic(auto)]
+
 ghost use Rattle.texts.specs.Eight.{lent_texts};
 ghost use Rattle.letters.specs.Letters.{Given, Tells, GivenAll, TellAll, ReplacedLetters};
 

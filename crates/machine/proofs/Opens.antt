@@ -22,7 +22,7 @@ use Rattle.opening.specs.declared.Opening.TheVariants as opening
 use Rattle.opening.specs.declared.OpenedRun.{OpenedRun}
 use Rattle.lines.specs.Lines.{header_line}
 use Rattle.sums.specs.declared.Total.{Total}
-use Rattle.log.specs.Log.{header_text, first_total}
+use Rattle.runlog.specs.Log.{header_text, first_total}
 use Rattle.places.specs.declared.Ask.{Ask}
 use Rattle.places.specs.declared.Phase.TheVariants.{Records, Over}
 use Rattle.places.specs.declared.Place.{Place}

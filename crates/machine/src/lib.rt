@@ -5,7 +5,7 @@ ghost use Rattle.rules.specs.Rule.{read};
 ghost use Rattle.rules.specs.Calls.{stopped};
 ghost use Rattle.error.specs.Number.{stop_of};
 ghost use Rattle.modes.specs.Modes.{open_by};
-ghost use Rattle.log.specs.Log.{first_total};
+ghost use Rattle.runlog.specs.Log.{first_total};
 ghost use Rattle.places.specs.Machine.{at_hand, fits, goes_on, logs_records, opens, step_of, IsStep};
 
 use error::Stopped;
@@ -38,7 +38,7 @@ fn log_hand(st: State, p: Place, buf: &mut [u8], out: &mut [u8]) -> Ask
     let from = p.from;
     let to = p.to;
     let before = p.total;
-    let w = log::log_records(st, &buf[from..to], 0, p.last, out, p.at, before);
+    let w = runlog::log_records(st, &buf[from..to], 0, p.last, out, p.at, before);
     let left = from + w.from;
     if w.count > usize::MAX - p.count {
         let q = moves(p, Phase::TooLong, left, to, w.at, p.count);

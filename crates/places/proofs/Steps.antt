@@ -23,10 +23,10 @@ use Rattle.reader.specs.declared.Closing.{Closing}
 use Rattle.reader.specs.declared.Closing.TheVariants as closing
 use Rattle.sums.specs.Sums.{total_from}
 use Rattle.sums.specs.declared.Total.{Total}
-use Rattle.log.specs.Runs.{lines_of, unscaled, logged, LoggedBy}
-use Rattle.log.proofs.Logs.{line_some, no_room, logged_got, logged_stops, read_inside, read_room}
+use Rattle.runlog.specs.Runs.{lines_of, unscaled, logged, LoggedBy}
+use Rattle.runlog.proofs.Logs.{line_some, no_room, logged_got, logged_stops, read_inside, read_room}
 use Rattle.lines.specs.Lines.{record_line}
-use Rattle.log.specs.declared.Logged.{Logged}
+use Rattle.runlog.specs.declared.Logged.{Logged}
 use Rattle.chemstation.specs.Next.{rule}
 use Rattle.streams.specs.declared.State.{State}
 use Rattle.streams.specs.declared.Record.{Record}

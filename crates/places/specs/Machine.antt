@@ -15,8 +15,8 @@ use Rattle.sums.specs.declared.Total.{Total}
 use Rattle.sums.specs.declared.Total.TheVariants.{Absent}
 use Rattle.lines.specs.Lines.{total_line, end_line}
 use Rattle.lines.specs.Left.{left_line, too_long_line}
-use Rattle.log.specs.Runs.{lines_of, unscaled, logged}
-use Rattle.log.specs.Log.{header_text, first_total}
+use Rattle.runlog.specs.Runs.{lines_of, unscaled, logged}
+use Rattle.runlog.specs.Log.{header_text, first_total}
 use Rattle.places.specs.declared.Phase.{Phase}
 use Rattle.places.specs.declared.Phase.TheVariants.{Digit, Header as HeaderOf, Records, Ended, TooLong, Over}
 use Rattle.places.specs.declared.Place.{Place}

@@ -146,7 +146,7 @@ pub fn refill(p: Place, buf: &mut [u8], out: &mut [u8]) -> Ask
         return close(p, Phase::Over, Stopped::MoreBytes, out);
     }
     let phase = p.phase;
-    log::compact(buf, p.from, p.to);
+    runlog::compact(buf, p.from, p.to);
     Ask::Read(moves(p, phase, 0, n, p.at, p.count), n)
 }
 
@@ -156,7 +156,7 @@ fn finished(st: State, s: &[u8]) -> bool
     ensures { result ≡ is_finished (read false (rule st) s.now) }
 {
     let mut line = [0u8; 70];
-    let w = log::log_records(st, s, 0, false, &mut line, 0, Total::Absent);
+    let w = runlog::log_records(st, s, 0, false, &mut line, 0, Total::Absent);
     let closing = w.closing;
     match closing {
         Closing::Full => false,

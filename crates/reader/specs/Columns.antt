@@ -2,7 +2,7 @@
 use Rattle.std.specs.Prelude.{◌≡◌, Bool, cond, ◌&&◌, List, ◌++◌, map, ℕ, eqb, length, drop, Float}
 use Rattle.std.specs.Float.{binary64}
 use Rattle.std.specs.Float.Ieee.{of_bits}
-use Rattle.std.specs.Borrow.{Bor}
+use Rattle.std.specs.Borrow.{MutBor}
 use denote.Triple.Both.{Both}
 use Rattle.rules.specs.Rule.{refused}
 use Rattle.rules.specs.Calls.{Answer, full, stopped, Reading, nothing, read_up_to}
@@ -36,7 +36,7 @@ columns t a u s m l = record { time = t; axis = a; unscaled = u; scaled = s; min
 
 -- a contract sees lent memory twice: as it was lent (`.entry`) and as it is given back (`.exit`)
 abbrev pub Lent : Type 0 → Type 0
-Lent A = Both (Bor A) (Bor A)
+Lent A = Both (MutBor A) (MutBor A)
 
 -- the six columns before and after, as one
 abbrev pub lent_columns : Lent (List Float) → Lent (List Float) → Lent (List Float) → Lent (List Float) → Lent (List ℕ) → Lent (List ℕ) → Both Columns Columns

@@ -1,5 +1,6 @@
 // Fill columns, over all kinds; and what it changes that bytes are told to be the last.
 #![tactic(auto)]
+
 ghost use Rattle.std.specs.Prelude.{◌≡◌, true};
 ghost use Rattle.rules.specs.Rule.{refused};
 ghost use Rattle.rules.specs.Calls.{stopped, nothing};

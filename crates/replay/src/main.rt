@@ -155,7 +155,7 @@ fn put_records(st: State, s: &[u8], from: usize, last: bool, out: &mut [u8], at:
     requires { (from ≤ length s.now) × (at ≤ length out.old) × (32768 ≤ length out.old) }
     ensures { result ≤ length out.old }
 {
-    let w = log::log_records(st, s, from, last, out, at, Total::Absent);
+    let w = runlog::log_records(st, s, from, last, out, at, Total::Absent);
     let closing = w.closing;
     let a = room(out, w.at);
     match closing {

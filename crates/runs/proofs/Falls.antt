@@ -21,10 +21,10 @@ use Rattle.sums.specs.declared.Total.{Total}
 use Rattle.lines.specs.Lines.{total_line, end_line, record_line}
 use Rattle.lines.specs.Left.{left_line, too_long_line}
 use Rattle.sums.specs.Sums.{total_from}
-use Rattle.log.specs.Log.{header_text, first_total}
-use Rattle.log.specs.Runs.{lines_of, unscaled, logged, read_into}
-use Rattle.log.proofs.Logs.{by_step, no_room, read_inside, read_room, read_some, read_few}
-use Rattle.log.proofs.Cuts.{never_waits}
+use Rattle.runlog.specs.Log.{header_text, first_total}
+use Rattle.runlog.specs.Runs.{lines_of, unscaled, logged, read_into}
+use Rattle.runlog.proofs.Logs.{by_step, no_room, read_inside, read_room, read_some, read_few}
+use Rattle.runlog.proofs.Cuts.{never_waits}
 use Rattle.places.specs.declared.Phase.{Phase}
 use Rattle.places.specs.declared.Phase.TheVariants.{Digit, Header as HeaderOf, Records, Ended, TooLong, Over}
 use Rattle.places.specs.declared.Place.{Place}

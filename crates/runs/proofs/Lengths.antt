@@ -23,9 +23,9 @@ use Rattle.digits.specs.Numbers.{places, decimal, number}
 use Rattle.digits.proofs.Digits.{length_digits, places_low}
 use Rattle.lines.specs.Lines.{bits_text, double_text, values_text, point_line, record_line, total_line, answer_text, end_line}
 use Rattle.lines.specs.Left.{ascii, behind_text, more_text, scan_text, left_line, too_long_line}
-use Rattle.log.specs.Log.{header_text}
-use Rattle.log.specs.Runs.{lines_of, read_into}
-use Rattle.log.proofs.Logs.{by_step}
+use Rattle.runlog.specs.Log.{header_text}
+use Rattle.runlog.specs.Runs.{lines_of, read_into}
+use Rattle.runlog.proofs.Logs.{by_step}
 use Rattle.places.specs.Machine.{put_at}
 
 -- ---- fields

@@ -26,10 +26,10 @@ use Rattle.sums.specs.declared.Total.{Total}
 use Rattle.sums.specs.declared.Total.TheVariants.{Absent}
 use Rattle.lines.specs.Lines.{record_line, total_line, end_line}
 use Rattle.lines.specs.Left.{left_line}
-use Rattle.log.specs.Runs.{lines_of, unscaled, go_on_by, read_into, logged}
-use Rattle.log.specs.Log.{in_buffer, Reads, header_text, first_total, foot_text, LogOf}
-use Rattle.log.proofs.Logs.{read_inside, read_room, read_few, by_step}
-use Rattle.log.proofs.Cuts.{never_waits, Behind, in_buffer_lem, full_waits, reads_step, reads_stop, log_step, log_stop, one_log}
+use Rattle.runlog.specs.Runs.{lines_of, unscaled, go_on_by, read_into, logged}
+use Rattle.runlog.specs.Log.{in_buffer, Reads, header_text, first_total, foot_text, LogOf}
+use Rattle.runlog.proofs.Logs.{read_inside, read_room, read_few, by_step}
+use Rattle.runlog.proofs.Cuts.{never_waits, Behind, in_buffer_lem, full_waits, reads_step, reads_stop, log_step, log_stop, one_log}
 use Rattle.places.specs.declared.Phase.{Phase}
 use Rattle.places.specs.declared.Phase.TheVariants.{Digit, Header as HeaderOf, Records, Ended, TooLong, Over}
 use Rattle.places.specs.declared.Place.{Place}

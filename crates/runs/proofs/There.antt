@@ -16,10 +16,10 @@ use Rattle.streams.specs.declared.State.{State}
 use Rattle.streams.specs.declared.Record.{Record}
 use Rattle.streams.specs.declared.Mode.{Mode}
 use Rattle.modes.specs.Modes.{open_by, begins_by}
-use Rattle.log.specs.Log.{header_text, first_total}
+use Rattle.runlog.specs.Log.{header_text, first_total}
 use Rattle.sums.specs.Sums.{total_from}
-use Rattle.log.specs.Runs.{lines_of, unscaled, logged}
-use Rattle.log.proofs.Logs.{read_inside}
+use Rattle.runlog.specs.Runs.{lines_of, unscaled, logged}
+use Rattle.runlog.proofs.Logs.{read_inside}
 use Rattle.places.specs.declared.Phase.{Phase}
 use Rattle.places.specs.declared.Phase.TheVariants.{Digit, Header as HeaderOf, Records, Ended, TooLong, Over}
 use Rattle.places.specs.declared.Place.{Place}

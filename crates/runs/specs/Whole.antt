@@ -5,7 +5,7 @@ use Rattle.streams.specs.declared.Mode.{Mode}
 use Rattle.digits.specs.Numbers.{kind_of}
 use Rattle.lines.specs.Lines.{end_line}
 use Rattle.lines.specs.Left.{ascii}
-use Rattle.log.specs.Log.{LogOf}
+use Rattle.runlog.specs.Log.{LogOf}
 use Rattle.places.specs.declared.Phase.{Phase}
 use Rattle.places.specs.declared.Phase.TheVariants.{Digit, Header, Records, Ended, TooLong, Over}
 use Rattle.places.specs.declared.Place.{Place}

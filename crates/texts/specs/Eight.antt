@@ -1,6 +1,6 @@
 -- All eight texts of a run at once, one behind the other. What each of them is, Fetch says (fetch/Fetch).
 use Rattle.std.specs.Prelude.{◌≡◌, true, cond, List, [], ◌∷◌, ◌++◌, map, ℕ, zero, suc, ◌+◌, ◌-◌, ◌<◌, leb, length, drop, get_or}
-use Rattle.std.specs.Borrow.{Bor}
+use Rattle.std.specs.Borrow.{MutBor}
 use denote.Triple.Both.{Both}
 use Rattle.rules.specs.Rule.{Rule, gives, ◌>>=◌, Read, got, stops, read, map_read}
 use Rattle.layouts.specs.Table.{field_of}
@@ -40,7 +40,7 @@ pub record Texts : Type 0 where
   pub starts : List ℕ
   pub lengths : List ℕ
 
-abbrev pub lent_texts : Both (Bor (List ℕ)) (Bor (List ℕ)) → Both (Bor (List ℕ)) (Bor (List ℕ)) → Both (Bor (List ℕ)) (Bor (List ℕ)) → Both Texts Texts
+abbrev pub lent_texts : Both (MutBor (List ℕ)) (MutBor (List ℕ)) → Both (MutBor (List ℕ)) (MutBor (List ℕ)) → Both (MutBor (List ℕ)) (MutBor (List ℕ)) → Both Texts Texts
 lent_texts b s l = record {
   entry = record { bytes = b.entry.now; starts = s.entry.now; lengths = l.entry.now };
   exit = record { bytes = b.exit.now; starts = s.exit.now; lengths = l.exit.now };

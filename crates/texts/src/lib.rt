@@ -1,5 +1,6 @@
 // All eight texts of a run at once: it is opened once, and they stand one behind the other in one lent buffer.
 #![tactic(auto)]
+
 ghost use Rattle.std.specs.Prelude.{◌≡◌, true, List, [], map, ℕ, ◌+◌, ◌-◌, ◌≤◌, ◌<◌, leb, length, get_or, replicate};
 ghost use Rattle.std.proofs.Math.Seq.{paste};
 ghost use denote.Triple.Both.{Both};

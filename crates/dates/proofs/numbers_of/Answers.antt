@@ -22,7 +22,7 @@ pub returns-in-Nothing : goal.returns-in-Nothing
 returns-in-Nothing c =
     let e = rw c.item_of.ensures at c.item_at.ensures in
     let h = rw c.loop-k.invariant.0 at c.loop-k-test.true in
-    record { values = simp c.no_numbers.ensures.0 (not_found _ _ _ _ _ _ c.loop-k.invariant.1 h c.item_at.result e c.in-Nothing.is); room = c.no_numbers.ensures.1 }
+    record { values = simp c.no_numbers.ensures.none (not_found _ _ _ _ _ _ c.loop-k.invariant.1 h c.item_at.result e c.in-Nothing.is); room = c.no_numbers.ensures.room }
 
 pub overflow_add-at : goal.overflow_add-at
 overflow_add-at c =

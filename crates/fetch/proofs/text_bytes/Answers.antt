@@ -19,16 +19,5 @@ slice_bounds-result-end c =
 
 pub returns : goal.returns
 returns c =
-    let n = add-sub_cancel_left (get_or c.args.d.text_starts c.args.k 0) (get_or c.args.d.text_lengths c.args.k 0) in record { old = (rw (c.start_of-at.ensures, c.length_of.ensures) (
-      old_text _ _ c.args.k c.requires.1 c.shared_slice_known-1.given,
-      (new_text _ _ c.args.k c.requires.1 c.shared_slice_known-1.given, (new_units _ _ c.args.k c.requires.1 c.shared_slice_known-1.given, ap (λ (j : ℕ). part (get_or c.args.d.text_starts c.args.k 0) j c.args.h.now) n)),
-    )).0; new = (rw (c.start_of-at.ensures, c.length_of.ensures) (
-      old_text _ _ c.args.k c.requires.1 c.shared_slice_known-1.given,
-      (new_text _ _ c.args.k c.requires.1 c.shared_slice_known-1.given, (new_units _ _ c.args.k c.requires.1 c.shared_slice_known-1.given, ap (λ (j : ℕ). part (get_or c.args.d.text_starts c.args.k 0) j c.args.h.now) n)),
-    )).1.0; count = (rw (c.start_of-at.ensures, c.length_of.ensures) (
-      old_text _ _ c.args.k c.requires.1 c.shared_slice_known-1.given,
-      (new_text _ _ c.args.k c.requires.1 c.shared_slice_known-1.given, (new_units _ _ c.args.k c.requires.1 c.shared_slice_known-1.given, ap (λ (j : ℕ). part (get_or c.args.d.text_starts c.args.k 0) j c.args.h.now) n)),
-    )).1.1.0; there = (rw (c.start_of-at.ensures, c.length_of.ensures) (
-      old_text _ _ c.args.k c.requires.1 c.shared_slice_known-1.given,
-      (new_text _ _ c.args.k c.requires.1 c.shared_slice_known-1.given, (new_units _ _ c.args.k c.requires.1 c.shared_slice_known-1.given, ap (λ (j : ℕ). part (get_or c.args.d.text_starts c.args.k 0) j c.args.h.now) n)),
-    )).1.1.1 }
+    let n = add-sub_cancel_left (get_or c.args.d.text_starts c.args.k 0) (get_or c.args.d.text_lengths c.args.k 0) in
+    rw (c.start_of-at.ensures, c.length_of.ensures) (record { old = old_text _ _ c.args.k c.requires.1 c.shared_slice_known-1.given; new = new_text _ _ c.args.k c.requires.1 c.shared_slice_known-1.given; count = new_units _ _ c.args.k c.requires.1 c.shared_slice_known-1.given; there = ap (λ (j : ℕ). part (get_or c.args.d.text_starts c.args.k 0) j c.args.h.now) n })

@@ -1,6 +1,6 @@
 -- The theorem, from the two that are cited.
 use borrow.Author.Rules.{rules}
-use Rattle.log.specs.Log.{refused_run}
+use Rattle.runlog.specs.Log.{refused_run}
 use Rattle.foot.proofs.Feet.{exact, sum, foot, array, number}
 use Rattle.foot.proofs.Printed.{lines, printed, within}
 use Rattle.foot.proofs.foot_of_log.Statement.{statement}

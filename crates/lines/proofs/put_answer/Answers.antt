@@ -9,11 +9,11 @@ use Rattle.lines.proofs.put_answer.Goals as goal
 
 pub returns-in-Finished : goal.returns-in-Finished
 unfolding answer_text
-returns-in-Finished c = record { put = put_as (ap (λ z. answer_text (stop_of z)) (sym c.in-Finished.is)) c.put_number.ensures.0; upper_bound = search rules }
+returns-in-Finished c = record { put = put_as (ap (λ z. answer_text (stop_of z)) (sym c.in-Finished.is)) c.put_number.ensures.put; upper_bound = search rules }
 
 pub returns-in-Refused : goal.returns-in-Refused
 unfolding answer_text
-returns-in-Refused c = record { put = put_as (ap (λ n. number n 32) c.number_of.ensures ∙ ap (λ z. answer_text (stop_of z)) (sym c.in-Refused.is)) c.put_number-in-Refused.ensures.0; upper_bound = search rules }
+returns-in-Refused c = record { put = put_as (ap (λ n. number n 32) c.number_of.ensures ∙ ap (λ z. answer_text (stop_of z)) (sym c.in-Refused.is)) c.put_number-in-Refused.ensures.put; upper_bound = search rules }
 
 pub returns-in-MoreBytes : goal.returns-in-MoreBytes
 unfolding answer_text

@@ -6,4 +6,4 @@ use Rattle.lines.proofs.put_behind.Goals as goal
 
 pub returns : goal.returns
 returns c =
-    record { put = put_then c.put_number-a.ensures.0 c.put_text.ensures.count; upper_bound = omega (arith, c.put_number-a.ensures.1, c.put_text.ensures.1) }
+    record { put = put_then c.put_number-a.ensures.put c.put_text.ensures.put; upper_bound = omega (arith, c.put_number-a.ensures.upper_bound, c.put_text.ensures.value) }

@@ -10,7 +10,7 @@ pub returns-in-Pattern : goal.returns-in-Pattern
 unfolding bits_text
 returns-in-Pattern c =
     let is = sym c.in-Pattern.is ∙ c.f64_to_bits.ensures in
-    record { put = put_as (ap (λ b. field (bits_text b) c.args.sep) is) (put_then c.put_bits-a.ensures.0 c.put_byte.ensures); upper_bound = search rules }
+    record { put = put_as (ap (λ b. field (bits_text b) c.args.sep) is) (put_then c.put_bits-a.ensures.put c.put_byte.ensures); upper_bound = search rules }
 
 pub returns-in-Nan : goal.returns-in-Nan
 unfolding bits_text

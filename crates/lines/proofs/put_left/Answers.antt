@@ -8,4 +8,4 @@ use Rattle.lines.proofs.put_left.Goals as goal
 pub returns : goal.returns
 unfolding left_line
 returns c =
-    record { put = put_then c.put_text-a.ensures.count c.put_scan.ensures.put; upper_bound = omega (arith, c.put_text-a.ensures.1, c.put_scan.ensures.upper_bound) }
+    record { put = put_then c.put_text-a.ensures.put c.put_scan.ensures.put; upper_bound = omega (arith, c.put_text-a.ensures.value, c.put_scan.ensures.upper_bound) }

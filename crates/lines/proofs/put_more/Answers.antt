@@ -11,4 +11,4 @@ returns-then-behind-eq0 c = let p = c.put_byte.ensures in record { put = rw (eq-
 
 pub returns : goal.returns
 returns c =
-    record { put = rw (ne_eqb _ 0 c.if-behind-eq0.false) (put_then c.put_text-a.ensures.count c.put_behind.ensures.put); upper_bound = omega (arith, c.put_text-a.ensures.1, c.put_behind.ensures.upper_bound) }
+    record { put = rw (ne_eqb _ 0 c.if-behind-eq0.false) (put_then c.put_text-a.ensures.put c.put_behind.ensures.put); upper_bound = omega (arith, c.put_text-a.ensures.value, c.put_behind.ensures.upper_bound) }

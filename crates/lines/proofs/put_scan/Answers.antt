@@ -10,4 +10,4 @@ returns-then-scan-eq0 c = record { put = rw (eq-eqb _ 0 c.if-scan-eq0.true) c.pu
 
 pub returns : goal.returns
 returns c =
-    record { put = rw (ne_eqb _ 0 c.if-scan-eq0.false) (put_then c.put_number-a.ensures.0 (put_then c.put_text-b.ensures.count c.put_more.ensures.put)); upper_bound = omega (arith, c.put_number-a.ensures.1, c.put_text-b.ensures.1, c.put_more.ensures.upper_bound) }
+    record { put = rw (ne_eqb _ 0 c.if-scan-eq0.false) (put_then c.put_number-a.ensures.put (put_then c.put_text-b.ensures.put c.put_more.ensures.put)); upper_bound = omega (arith, c.put_number-a.ensures.upper_bound, c.put_text-b.ensures.value, c.put_more.ensures.upper_bound) }

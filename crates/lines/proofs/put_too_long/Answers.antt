@@ -6,4 +6,4 @@ use Rattle.lines.proofs.put_too_long.Goals as goal
 
 pub returns : goal.returns
 unfolding too_long_line
-returns c = record { put = c.put_text.ensures.count; upper_bound = omega (arith, c.put_text.ensures.1) }
+returns c = record { put = c.put_text.ensures.put; upper_bound = omega (arith, c.put_text.ensures.value) }

@@ -20,7 +20,7 @@ returns-in-Amount c =
     let fits : SFits w64 n = record { sfits = c.in-Amount.known_told-1-own.given.0.1 } in
     let p = c.put_letter-a.ensures in
     let line = ap (λ z. (116 ∷ 32 ∷ []) ++ signed_number z 10) (to_z-of_z fits) ∙ ap total_line (sym c.in-Amount.is) in
-    record { put = put_as line (put_then p c.put_signed.ensures.0); upper_bound = omega (arith, c.put_letter-a.ensures.next, c.put_signed.ensures.1) }
+    record { put = put_as line (put_then p c.put_signed.ensures.put); upper_bound = omega (arith, c.put_letter-a.ensures.next, c.put_signed.ensures.upper_bound) }
 
 pub returns-in-Refused : goal.returns-in-Refused
 returns-in-Refused c =

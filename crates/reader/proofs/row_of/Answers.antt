@@ -1,0 +1,14 @@
+-- By the record's case.
+use mathlib.Core.Path.{sym, ap}
+use borrow.Author.Rules.{rules}
+use Rattle.reader.specs.Columns.{row_of}
+use Rattle.reader.proofs.row_of.Goals as goal
+
+pub returns-in-Trace : goal.returns-in-Trace
+returns-in-Trace c = sym (ap row_of c.in-Trace.is)
+
+pub returns-in-Mass : goal.returns-in-Mass
+returns-in-Mass c = sym (ap row_of c.in-Mass.is)
+
+pub returns-in-Spectrum : goal.returns-in-Spectrum
+returns-in-Spectrum c = sym (ap row_of c.in-Spectrum.is)

@@ -1,0 +1,15 @@
+-- Each turn puts one text more.
+use mathlib.Core.Path.{sym, ◌∙◌}
+use Prim.Native.Nat.{◌-◌, ◌<◌}
+use native.Mathlib.Omega.{arith}
+use lib.ListN.{length}
+use borrow.Author.Rules.{rules}
+use Rattle.texts.specs.Eight.{texts_of, replaced_in_each}
+use Rattle.texts.proofs.Joins.{Laying, lay_starts, eight, text_of_lem, eight_counts, count_of, lay_fits, lays_on, same_room, laid}
+use Rattle.texts.proofs.lay_out.Given as goal
+
+abbrev pub invariant-loop-k : goal.invariant-loop-k
+invariant-loop-k l = Laying (texts_of l.d.edition l.h) (replaced_in_each l.d.edition l.h) l.initial.out l.starts l.lengths l.replaced l.out l.n l.k
+
+abbrev pub decreases-loop-k : goal.decreases-loop-k
+decreases-loop-k l = 8 - l.k
