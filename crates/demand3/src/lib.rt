@@ -1,6 +1,7 @@
 // Demand 3, whole, and document 01's marked specimens. Nothing is computed here: each function's contract is a theorem, cited so that
 // it cannot be left out.
 #![tactic(auto)]
+
 ghost use Rattle.demand3.specs.Demand3.{Demand3Holds};
 ghost use Rattle.demand3.specs.Specimens.{specimens, atlas_specimens, AllGive};
 

@@ -102,7 +102,7 @@ pub read_inside : (most room : ℕ) (last : Bool) (st : State) (bs : List ℕ) �
 unfolding read_into
 read_inside zero room last st bs = omega arith
 read_inside (suc most) room last st bs =
-    by_step most room last st bs _ (λ g. g.consumed ≤ length bs) (λ h. omega arith) (λ z h e. omega arith)
+    by_step most room last st bs (λ x left. read_into most (room - length (record_line x.shows)) last x.after left) (λ g. g.consumed ≤ length bs) (λ h. omega arith) (λ z h e. omega arith)
     (λ x n h e. let ih = read_inside most (room - length (record_line x.shows)) last x.after (drop n bs) in omega (arith, ih, length-drop n bs, taken_within last (rule st) bs e))
 
 -- where it stops by another answer there is still room for a line
@@ -110,7 +110,7 @@ pub read_room : (most room : ℕ) (last : Bool) (st : State) (bs : List ℕ) {z 
 unfolding read_into lines_of
 read_room zero room last st bs = λ e. absurd (full≢stopped e)
 read_room (suc most) room last st bs {z} =
-    by_step most room last st bs _ (λ g. g.closing ≡ stopped z → length (lines_of g.records) + 70 ≤ room) (λ h e. absurd (full≢stopped e)) (λ y h r e. omega arith)
+    by_step most room last st bs (λ x left. read_into most (room - length (record_line x.shows)) last x.after left) (λ g. g.closing ≡ stopped z → length (lines_of g.records) + 70 ≤ room) (λ h e. absurd (full≢stopped e)) (λ y h r e. omega arith)
     (λ x n h r e. let ih = read_room most (room - length (record_line x.shows)) last x.after (drop n bs) e in omega (arith, ih, length-append (record_line x.shows) (lines_of (read_into most (room - length (record_line x.shows)) last x.after (drop n bs)).records)))
 
 -- where the room is used up there was a record
@@ -118,7 +118,7 @@ pub read_some : (most room : ℕ) (last : Bool) (st : State) (bs : List ℕ) →
 unfolding read_into
 read_some zero room last st bs h k = λ e. absurd (omega arith)
 read_some (suc most) room last st bs h k =
-    by_step most room last st bs _ (λ g. g.closing ≡ full → 0 < g.consumed) (λ l e. absurd (omega arith)) (λ z l r e. absurd (full≢stopped (sym e)))
+    by_step most room last st bs (λ x left. read_into most (room - length (record_line x.shows)) last x.after left) (λ g. g.closing ≡ full → 0 < g.consumed) (λ l e. absurd (omega arith)) (λ z l r e. absurd (full≢stopped (sym e)))
     (λ x n l r e. omega (arith, record_takes st last bs r))
 
 -- each record takes a byte at least
@@ -126,7 +126,7 @@ pub read_few : (most room : ℕ) (last : Bool) (st : State) (bs : List ℕ) → 
 unfolding read_into
 read_few zero room last st bs = omega arith
 read_few (suc most) room last st bs =
-    by_step most room last st bs _ (λ g. length g.records ≤ g.consumed) (λ l. omega arith) (λ z l r. omega arith)
+    by_step most room last st bs (λ x left. read_into most (room - length (record_line x.shows)) last x.after left) (λ g. length g.records ≤ g.consumed) (λ l. omega arith) (λ z l r. omega arith)
     (λ x n l r. let ih = read_few most (room - length (record_line x.shows)) last x.after (drop n bs) in omega (arith, ih, record_takes st last bs r))
 
 -- ---- the loop

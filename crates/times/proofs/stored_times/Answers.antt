@@ -2,10 +2,9 @@
 use mathlib.Core.Path.{refl}
 use Rattle.times.proofs.Readings.{stamped, keeps, begun, reads, calls, zeros}
 use Rattle.times.proofs.Widths.{equal, unequal, unwritten, exact, rows, shown}
-use Rattle.times.proofs.stored_times.Statement.{statement}
-use Rattle.times.proofs.stored_times.Tie as tie
+use Rattle.times.proofs.stored_times.Goals as goal
 
-returns : tie.Need-returns
+pub returns : goal.returns
 returns c = record {
   next = stamped;
   opens = begun;
@@ -21,7 +20,5 @@ returns c = record {
   unequal = unequal;
   unwritten = unwritten;
   shown = shown;
-}
 
-pub stored_times_spec : {M : Type 1} → statement M
-stored_times_spec = tie.close (tie.spec returns)
+}
