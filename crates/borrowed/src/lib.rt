@@ -1,6 +1,7 @@
 // Next record in the two forms that borrow: over a state that the caller lends, and from a reader that holds the bytes and a
 // position in them. Functions over them are thin; the work is done by value, on a slice and a number.
 #![tactic(auto)]
+
 ghost use Rattle.std.specs.Prelude.{◌≡◌, ◌+◌, length, drop};
 ghost use Rattle.rules.specs.Rule.{read};
 ghost use Rattle.chemstation.specs.Next.{rule};

@@ -1,6 +1,6 @@
 -- Cells of a walk by hand: the fields of a struct of two, a value's type in a body, and a local that is given back; they name no crate.
---     first-in, second-in    a field of a struct in its cell. The struct's type is written where they are used: left to be found, it is written out in full at each use
---     typed-as    a value that a type's relation holds of has the type as a body has it
+--     first_in, second_in    a field of a struct in its cell. The struct's type is written where they are used: left to be found, it is written out in full at each use
+--     typed_as    a value that a type's relation holds of has the type as a body has it
 --     local       a local is read, at a position
 --     gone        a local's cell and its death, at a position and right after it, free the local
 use mathlib.Core.Path.{◌≡◌, refl, subst}
@@ -8,7 +8,7 @@ use mathlib.Core.List.{List, [], ◌∷◌}
 use mathlib.Core.Option.{some}
 use Prim.Native.Nat.{ℕ, zero, suc, ◌+◌}
 use seplogic.Ra.Ura.{Ura}
-use seplogic.Ra.TreeShare.{full_share}
+use base.Fraction.{full_share}
 use lib.Dec.{T as Holds}
 use mir.Syntax.{Sym, Ty, Tys, ty_struct, place, copy}
 use mir.Val.{Val, WT, has_ty, vstruct, vnil, vcons}

@@ -1,9 +1,9 @@
 -- A walk of a function's MIR from what is owned on entry, in the tables that its calls mean, is the function's theorem; it names no crate.
 use seplogic.Ra.Ura.{Ura}
-use mir.Syntax.{Fn}
+use mir.Syntax.{Fn, Callee}
 use base.Logic.{ent, via, fst∗}
 use prog.Model.{Model}
-use prog.Routine.{Name, Env}
+use prog.Routine.{Env}
 use prog.Wp.{Calls, Loops, WpFn, Closed}
 use types.Logic.{Logic}
 use contract.Lifetimes.{Lfts, Shares, AllOutlive}
@@ -28,7 +28,7 @@ module _ {M : Type 1} {𝓤 : Ura M} (𝓛 : Logic 𝓤) (𝓜 : Model 𝓤 𝓛
   abbrev Λ : Loops 𝓤 H
   Λ = (tables 𝓤 H 𝓜 𝓡 γ).Λ
 
-  module _ (T : Ended) (hs : Stays T.signature.params T.kept) (c : Clauses 𝓤 T) (k : Name) (f : Fn) where
+  module _ (T : Ended) (hs : Stays T.signature.params T.kept) (c : Clauses 𝓤 T) (k : Callee) (f : Fn) where
     abbrev S : Signature
     S = T.signature
 
