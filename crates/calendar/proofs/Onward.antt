@@ -9,7 +9,7 @@ use borrow.Author.Tests.{ltb-true, ltb-false, leb-true, leb-false}
 use borrow.Table.Steps.{cases as by}
 use Rattle.utf8.proofs.Cases.{least, most, inside, never}
 use Rattle.calendar.specs.declared.Moment.{Moment}
-use Rattle.calendar.specs.Calendar.{leap, days_in, before_month, of_years, day_number, is_day, Day, day, valid, number, next, InRange, instant_of, CalendarDays}
+use Rattle.calendar.specs.Calendar.{leap, days_in, before_month, of_years, day_number, is_day, Day, valid, number, next, InRange, instant_of, CalendarDays}
 use Rattle.calendar.proofs.Days.{years_sum, most_before, day_within, first_day, a_month}
 
 -- what is no day behind one that is: it was the month's last

@@ -1,6 +1,7 @@
 // The calls of demand 3, made by the code: one Open, then Next record by value and Fill columns in any order and number, each
 // with the state that the last returned and the bytes that it left.
 #![tactic(auto)]
+
 ghost use Rattle.std.specs.Prelude.{◌≡◌, cond, ◌+◌, ltb};
 ghost use Rattle.rules.specs.Calls.{full, next, fill_unequal, asks, asked, called};
 ghost use Rattle.chemstation.specs.Next.{rule};

@@ -1,5 +1,6 @@
 // The log program without input and output: a run as a machine over two lent buffers, that asks for what it needs.
 #![tactic(auto)]
+
 ghost use Rattle.std.specs.Prelude.{◌+◌, ◌≤◌, ◌≡◌, length};
 ghost use Rattle.rules.specs.Rule.{read};
 ghost use Rattle.rules.specs.Calls.{stopped};

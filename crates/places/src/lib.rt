@@ -1,5 +1,6 @@
 // Where a run of the log program stands, and what it asks for there: the parts of a step.
 #![tactic(auto)]
+
 ghost use Rattle.std.specs.Prelude.{ℕ, ◌+◌, ◌-◌, ◌≤◌, ◌<◌, ◌≡◌, List, false, length};
 ghost use Rattle.rules.specs.Rule.{read};
 ghost use Rattle.error.specs.Number.{stop_of};

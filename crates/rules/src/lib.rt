@@ -1,5 +1,6 @@
 // Rules of reading, and demand 3 for any of them: definitions and theorems. The crates above read by rules of their own.
 #![tactic(auto)]
+
 ghost use Rattle.std.specs.Prelude.{ℕ, List};
 ghost use Rattle.rules.specs.AnyRules.{AnyRules};
 

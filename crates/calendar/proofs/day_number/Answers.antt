@@ -1,6 +1,5 @@
 -- Years, months and days.
 use native.Mathlib.Omega.{arith}
-use borrow.Author.Rules.{rules}
 use Rattle.calendar.specs.Calendar.{day_number}
 use Rattle.calendar.proofs.day_number.Goals as goal
 

@@ -1,7 +1,6 @@
 -- February has a day more in a leap year.
 use mathlib.Core.Path.{refl, sym, ◌∙◌}
 use mathlib.Core.Bool.{true, false}
-use borrow.Author.Rules.{rules}
 use Rattle.calendar.proofs.Days.{other_month, february}
 use Rattle.calendar.proofs.days_in.Goals as goal
 

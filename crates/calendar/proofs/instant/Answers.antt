@@ -1,5 +1,4 @@
 -- Seconds of days, hours and minutes.
-use borrow.Author.Rules.{rules}
 use Rattle.calendar.specs.Calendar.{instant_of}
 use Rattle.calendar.proofs.Days.{day_within}
 use Rattle.calendar.proofs.instant.Goals as goal

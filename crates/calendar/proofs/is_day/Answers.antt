@@ -1,5 +1,4 @@
 -- From 1 to the days of the month.
-use borrow.Author.Rules.{rules}
 use borrow.Author.Tests.{lt-leb, le-leb}
 use Rattle.calendar.specs.Calendar.{is_day}
 use Rattle.calendar.proofs.is_day.Goals as goal

@@ -1,6 +1,5 @@
 -- The sum over the years, computed for each.
 use native.Mathlib.Omega.{arith}
-use borrow.Author.Rules.{rules}
 use Rattle.calendar.proofs.Days.{years_sum}
 use Rattle.calendar.proofs.of_years.Goals as goal
 

@@ -1,7 +1,6 @@
 -- Two bytes, joined.
 use mathlib.Core.Path.{sym, ◌∙◌}
 use Rattle.common.proofs.Laws.{be_bytes}
-use borrow.Author.Rules.{rules}
 use Rattle.common.proofs.be_u16.Goals as goal
 
 pub returns : goal.returns

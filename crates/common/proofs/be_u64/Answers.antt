@@ -1,7 +1,6 @@
 -- Two halves, joined.
 use native.Mathlib.Omega.{arith}
 use Rattle.common.proofs.Laws.{be_halves}
-use borrow.Author.Rules.{rules}
 use Rattle.common.proofs.be_u64.Goals as goal
 
 pub returns : goal.returns

@@ -1,7 +1,6 @@
 -- Two bytes, joined.
 use mathlib.Core.Path.{sym, ◌∙◌}
 use Rattle.common.proofs.Laws.{le_bytes}
-use borrow.Author.Rules.{rules}
 use Rattle.common.proofs.le_u16.Goals as goal
 
 pub returns : goal.returns

@@ -1,7 +1,6 @@
 -- Two halves, joined.
 use native.Mathlib.Omega.{arith}
 use Rattle.common.proofs.Laws.{le_halves}
-use borrow.Author.Rules.{rules}
 use Rattle.common.proofs.le_u32.Goals as goal
 
 pub returns : goal.returns

@@ -5,7 +5,6 @@ use native.Mathlib.Omega.{arith}
 use mir.Syntax.{w16}
 use mir.Val.{to_z}
 use Rattle.common.proofs.Laws.{twos_is}
-use borrow.Author.Rules.{rules}
 use Rattle.common.proofs.signed16.Goals as goal
 
 pub returns-then-n-lt32768 : goal.returns-then-n-lt32768

@@ -5,7 +5,6 @@ use native.Mathlib.Omega.{arith}
 use mir.Syntax.{w32}
 use mir.Val.{to_z}
 use Rattle.common.proofs.Laws.{twos_is}
-use borrow.Author.Rules.{rules}
 use Rattle.common.proofs.signed32.Goals as goal
 
 pub returns-then-n-lt2147483648 : goal.returns-then-n-lt2147483648

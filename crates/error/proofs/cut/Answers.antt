@@ -1,5 +1,4 @@
 -- By whether the bytes are the last.
-use borrow.Author.Rules.{rules}
 use Rattle.error.proofs.cut.Goals as goal
 
 pub returns-then-last : goal.returns-then-last

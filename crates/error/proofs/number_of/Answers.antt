@@ -1,6 +1,5 @@
 -- Case by case: the number is that of the case.
 use mathlib.Core.Path.{sym, ap}
-use borrow.Author.Rules.{rules}
 use Rattle.error.specs.Number.{number_of}
 use Rattle.error.proofs.number_of.Goals as goal
 

@@ -1,5 +1,5 @@
 -- The test tells the NaNs' patterns from the others.
-use Rattle.std.proofs.Common.{arith, rules}
+use Rattle.std.proofs.Common.{arith}
 use lib.Ieee.{binary64}
 use Rattle.floats.proofs.Patterns.{nan_pattern, plain_pattern}
 use Rattle.floats.proofs.f64_from_bits.Goals as goal

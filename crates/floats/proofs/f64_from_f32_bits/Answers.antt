@@ -1,5 +1,5 @@
 -- The test tells the NaNs' patterns from the others, and widening changes no value.
-use Rattle.std.proofs.Common.{arith, rules}
+use Rattle.std.proofs.Common.{arith}
 use lib.Ieee.{binary32, binary64}
 use Rattle.floats.proofs.Patterns.{nan_pattern, plain_pattern, widens_pattern}
 use Rattle.floats.proofs.f64_from_f32_bits.Goals as goal

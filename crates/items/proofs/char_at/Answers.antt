@@ -1,7 +1,6 @@
 -- Behind the end nothing stands.
 use mathlib.Core.Path.{sym}
 use lib.ListN.{get_or-eq_default}
-use borrow.Author.Rules.{rules}
 use Rattle.items.proofs.char_at.Goals as goal
 
 pub returns : goal.returns

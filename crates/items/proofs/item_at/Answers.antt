@@ -1,5 +1,4 @@
 -- Item by item.
-use borrow.Author.Rules.{rules}
 use Rattle.items.proofs.item_at.Goals as goal
 
 pub returns-in-Sign : goal.returns-in-Sign

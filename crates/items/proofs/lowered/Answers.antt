@@ -1,5 +1,4 @@
 -- From A to Z.
-use borrow.Author.Rules.{rules}
 use borrow.Author.Tests.{lt-leb, le-leb}
 use Rattle.items.proofs.lowered.Goals as goal
 

@@ -1,6 +1,5 @@
 -- Three letters in any case.
 use mathlib.Core.Path.{sym}
-use borrow.Author.Rules.{rules}
 use Rattle.items.specs.Items.{stands_at}
 use Rattle.items.proofs.month_at.Goals as goal
 

@@ -1,11 +1,7 @@
 -- None of the months passed has these letters.
 use mathlib.Core.Path.{refl, sym, ◌∙◌}
-use mathlib.Core.Path.{◌≡◌}
-use Prim.Native.Nat.{suc, ◌-◌, ◌≤◌}
 use native.Mathlib.Omega.{arith}
-use lib.ListN.{drop}
-use borrow.Author.Rules.{rules}
-use Rattle.items.specs.Items.{month_names, named_from, month_named}
+use Rattle.items.specs.Items.{month_named}
 use Rattle.items.proofs.Items.{named_here, not_here, named_nowhere}
 use Rattle.items.proofs.month_of.Goals as goal
 

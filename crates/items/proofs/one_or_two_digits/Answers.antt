@@ -1,6 +1,5 @@
 -- By whether the second is a digit.
 use mathlib.Core.Path.{sym, ◌∙◌}
-use borrow.Author.Rules.{rules}
 use Rattle.utf8.proofs.Cases.{no, yes}
 use Rattle.items.proofs.Items.{taken, digit_least}
 use Rattle.items.proofs.one_or_two_digits.Goals as goal

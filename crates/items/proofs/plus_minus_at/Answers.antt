@@ -1,6 +1,5 @@
 -- One sign, the other, or none.
 use mathlib.Core.Path.{sym, ◌∙◌}
-use borrow.Author.Rules.{rules}
 use Rattle.items.specs.Items.{stands_at}
 use Rattle.items.proofs.plus_minus_at.Goals as goal
 

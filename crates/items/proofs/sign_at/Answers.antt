@@ -1,6 +1,5 @@
 -- The character, or not.
 use mathlib.Core.Path.{sym, ◌∙◌}
-use borrow.Author.Rules.{rules}
 use Rattle.items.specs.Items.{stands_at}
 use Rattle.items.proofs.sign_at.Goals as goal
 

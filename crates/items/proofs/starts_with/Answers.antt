@@ -1,5 +1,4 @@
 -- A text without a character starts with none.
-use borrow.Author.Rules.{rules}
 use Rattle.items.proofs.Items.{starts_empty, starts_first}
 use Rattle.items.proofs.starts_with.Goals as goal
 

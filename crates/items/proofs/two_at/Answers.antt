@@ -1,6 +1,5 @@
 -- The first two characters.
 use mathlib.Core.Path.{sym}
-use borrow.Author.Rules.{rules}
 use Rattle.items.specs.Items.{stands_at}
 use Rattle.items.proofs.two_at.Goals as goal
 

@@ -1,6 +1,5 @@
 -- Two digits, and their number in its range.
 use native.Mathlib.Omega.{arith}
-use borrow.Author.Rules.{rules}
 use Rattle.items.proofs.Items.{digit_least, digit_most}
 use Rattle.utf8.proofs.Cases.{no, yes}
 use Rattle.items.proofs.two_digits.Goals as goal

@@ -1,9 +1,5 @@
 -- Each turn finds one byte of ASCII more.
-use Prim.Native.Nat.{◌-◌}
-use native.Mathlib.Omega.{arith}
-use lib.ListN.{length}
-use borrow.Author.Rules.{rules}
-use Rattle.trim.proofs.Ascii.{Prefix, prefix_starts, prefix_on, prefix_ends, prefix_done}
+use Rattle.trim.proofs.Ascii.{prefix_on, prefix_ends, prefix_done}
 use Rattle.trim.proofs.ascii_prefix.Goals as goal
 
 pub returns-then-s-i-gt127 : goal.returns-then-s-i-gt127

@@ -1,9 +1,7 @@
 -- Each turn finds one byte of ASCII more.
 use Prim.Native.Nat.{◌-◌}
-use native.Mathlib.Omega.{arith}
 use lib.ListN.{length}
-use borrow.Author.Rules.{rules}
-use Rattle.trim.proofs.Ascii.{Prefix, prefix_starts, prefix_on, prefix_ends, prefix_done}
+use Rattle.trim.proofs.Ascii.{Prefix}
 use Rattle.trim.proofs.ascii_prefix.Given as goal
 
 abbrev pub invariant-loop-i : goal.invariant-loop-i

@@ -1,6 +1,5 @@
 -- Of the ten rows the first two reach below 0x80.
 use mathlib.Core.Path.{◌∙◌}
-use borrow.Author.Rules.{rules}
 use Rattle.trim.proofs.Spaces.{other, blank, controls}
 use Rattle.trim.proofs.ascii_space.Goals as goal
 

@@ -1,11 +1,9 @@
 -- Each turn leaves one byte of white space less.
 use mathlib.Core.Path.{sym, ap, ◌∙◌}
-use Prim.Native.Nat.{◌-◌}
 use native.Mathlib.Omega.{arith}
-use borrow.Author.Rules.{rules}
 use Rattle.utf8.proofs.Cases.{yes, no}
 use Rattle.trim.specs.WhiteSpace.{white}
-use Rattle.trim.proofs.Ascii.{Ending, end_starts, end_on, end_here, end_none}
+use Rattle.trim.proofs.Ascii.{end_on, end_here, end_none}
 use Rattle.trim.proofs.end_of_text.Goals as goal
 
 pub bounds-s-end : goal.bounds-s-end

@@ -1,5 +1,4 @@
 -- By the tests on the way.
-use borrow.Author.Rules.{rules}
 use Rattle.utf8.proofs.Cases.{tests, yes, no}
 use Rattle.trim.proofs.next_mark.Goals as goal
 

@@ -1,12 +1,9 @@
 -- The invariant says the answer by what is left from here.
-use mathlib.Core.Path.{refl, sym, ◌∙◌}
 use Prim.Native.Nat.{◌-◌}
-use native.Mathlib.Omega.{arith}
 use lib.ListN.{length, drop}
-use borrow.Author.Rules.{rules}
 use Rattle.utf8.specs.Utf8.{decode}
 use Rattle.trim.specs.WhiteSpace.{trimmed_from}
-use Rattle.trim.proofs.Trims.{Going, ill, fits, moves, goes_on, ended}
+use Rattle.trim.proofs.Trims.{Going}
 use Rattle.trim.proofs.trim_from.Given as goal
 
 abbrev pub invariant-loop-at : goal.invariant-loop-at

@@ -1,7 +1,6 @@
 -- The ASCII at the start by its ends; the rest scalar by scalar.
 use mathlib.Core.Path.{◌∙◌}
 use native.Mathlib.Omega.{arith}
-use borrow.Author.Rules.{rules}
 use Rattle.trim.proofs.Ascii.{prefix_length, starts_inside, ends_inside, from_prefix}
 use Rattle.trim.proofs.trim_utf8.Goals as goal
 

@@ -1,7 +1,6 @@
 -- Past the end `get_or` gives 0.
 use mathlib.Core.Path.{sym}
 use lib.ListN.{get_or-eq_default}
-use borrow.Author.Rules.{rules}
 use Rattle.utf8.proofs.byte_at.Goals as goal
 
 pub returns-else-at-s : goal.returns-else-at-s

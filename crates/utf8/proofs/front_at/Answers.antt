@@ -1,7 +1,6 @@
 -- A byte of ASCII by itself, then two bytes; else a byte of the rest is one of the whole.
 use mathlib.Core.Path.{refl, sym, ◌∙◌}
 use native.Mathlib.Omega.{arith}
-use borrow.Author.Rules.{rules}
 use Rattle.utf8.proofs.Cases.{least, most}
 use Rattle.utf8.proofs.Fronts.{front_in_lem, front_ascii}
 use Rattle.utf8.proofs.front_at.Goals as goal

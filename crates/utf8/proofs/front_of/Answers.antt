@@ -1,6 +1,5 @@
 -- Each answer by the tests that lead to it.
 use mathlib.Core.Path.{sym, ◌∙◌}
-use borrow.Author.Rules.{rules}
 use Rattle.utf8.specs.Utf8.{front_of}
 use Rattle.utf8.proofs.Cases.{tests, yes, no}
 use Rattle.utf8.proofs.Fronts.{front_longer}

@@ -1,5 +1,4 @@
 -- Each answer by the tests that lead to it.
-use borrow.Author.Rules.{rules}
 use borrow.Author.Tests.{le-ltb}
 use Rattle.utf8.proofs.Cases.{tests, yes, no}
 use Rattle.utf8.proofs.longer.Goals as goal

@@ -1,5 +1,4 @@
 -- What `within` is asked is what `low` and `high` answer.
-use borrow.Author.Rules.{rules}
 use Rattle.utf8.proofs.second.Goals as goal
 
 pub returns : goal.returns

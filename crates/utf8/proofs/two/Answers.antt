@@ -1,5 +1,4 @@
 -- The second byte follows, or none does.
-use borrow.Author.Rules.{rules}
 use Rattle.utf8.proofs.Cases.{yes, no}
 use Rattle.utf8.proofs.Fronts.{two_ill, two_char}
 use Rattle.utf8.proofs.two.Goals as goal

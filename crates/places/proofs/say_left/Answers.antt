@@ -1,0 +1,12 @@
+-- The line is put and told.
+use mathlib.Core.Path.{refl, ap₂, ◌∙◌}
+use native.Mathlib.Nat.{zero-add}
+use Rattle.places.specs.declared.Ask.TheVariants.{Tell}
+use Rattle.places.proofs.Steps.{put_at_lem}
+use borrow.Author.Rules.{rules}
+use Rattle.places.proofs.say_left.Goals as goal
+
+pub returns : goal.returns
+returns c =
+    let p = c.put_left-n.ensures.put in
+    λ buf. record { answer = ap₂ Tell c.moves.ensures (c.put_left-n.ensures.put.next ∙ zero-add _); buffer = refl; text = put_at_lem p }
