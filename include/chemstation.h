@@ -1,6 +1,6 @@
 /* Reads runs of Agilent ChemStation: what the header says, its texts, the records as columns, and the sum of a column.
  *
- * The archive is made by `rt staticlib chemread` (target/staticlib/libchemread.a, x86-64 Linux). It allocates nothing, keeps
+ * The archive is made by `tools/build-library` (target/staticlib/libchemread.a, x86-64 Linux). It allocates nothing, keeps
  * nothing between calls, reads and writes no file, and needs of the C library only memcpy. Calls from several threads do not
  * disturb each other as long as no two of them are lent the same memory to write.
  *

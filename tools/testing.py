@@ -465,9 +465,11 @@ def script(path, text):
 
 
 def copied_tools(root):
-    """A repository's root with the tools and no target/, as in a fresh clone."""
+    """A repository's root with the tools, the folders in which rt builds and no target/, as in a fresh clone."""
     for folder in ("tools", "python"):
         shutil.copytree(ROOT / folder, root / folder, ignore=shutil.ignore_patterns("oracle", "__pycache__"))
+    for crate in ("chemlog", "atlaslog", "chemread"):
+        (root / "crates" / crate).mkdir(parents=True)
     return root
 
 

@@ -3,8 +3,6 @@
 The lines of a log are counted here, and its first and last ones read, so that no log is taken for whole that is not. What it says
 of a run is the program's.
 """
-import contextlib
-import fcntl
 import hashlib
 import os
 import re
@@ -12,17 +10,15 @@ import shutil
 import signal
 import struct
 import subprocess
-import sys
 import tempfile
 import threading
 from concurrent.futures import FIRST_COMPLETED, wait
-from pathlib import Path
 from typing import NamedTuple, Optional
 
 from chemstation.answers import NO_ATLAS, SUMMED
+from press import builds
 from press.cli import GiveUp
 
-ROOT = Path(__file__).resolve().parents[2]
 BLOCK = 1 << 20  # bytes
 TAIL = 300  # bytes; the last three lines of a log are shorter
 ANSWERS = [*map(str, range(15)), str(NO_ATLAS), "m"]  # those that close a log
@@ -77,19 +73,6 @@ def as_they_end(futures):
 
 # ---- the log programs
 
-@contextlib.contextmanager
-def build_lock(say):
-    """Only one process at a time builds in target/. The system lets go of the lock with the process: none is left behind."""
-    (ROOT / "target").mkdir(exist_ok=True)
-    with open(ROOT / "target/build.lock", "a") as lock:
-        try:
-            fcntl.flock(lock, fcntl.LOCK_EX | fcntl.LOCK_NB)
-        except BlockingIOError:
-            say("waiting for another build in target/")
-            fcntl.flock(lock, fcntl.LOCK_EX)
-        yield
-
-
 def is_program(path):
     return os.access(path, os.X_OK) and not os.path.isdir(path)
 
@@ -98,12 +81,12 @@ def build(name, program, say):
     """Proves and builds a log program of the repository, if it is not there by the time that no other process builds."""
     if not shutil.which("rt"):
         raise GiveUp(f"target/bin/{name} is not there, and neither is rt, which builds it")
-    with build_lock(say):
+    with builds.build_lock(say):
         if is_program(program):
             return
         say(f"proving and building {name}")
-        if subprocess.run(["rt", "check", name], cwd=ROOT, stdout=sys.stderr).returncode != 0:
-            raise GiveUp(f"rt check {name} failed")
+        if not builds.build(name):
+            raise GiveUp(f"rt run {name} failed")
 
 
 def find_program(say, atlas=False):
@@ -111,7 +94,7 @@ def find_program(say, atlas=False):
     is not there."""
     name = "atlaslog" if atlas else "chemlog"
     named = os.environ.get(name.upper())
-    program = os.path.abspath(named or ROOT / "target/bin" / name)
+    program = os.path.abspath(named or builds.BUILDS[name].place)
     if not named and not is_program(program):
         build(name, program, say)
     if not is_program(program):

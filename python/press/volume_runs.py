@@ -12,7 +12,7 @@ from typing import NamedTuple
 
 import chemstation
 from chemstation.answers import ATLAS
-from press import advice, cli, logs
+from press import advice, builds, cli, logs
 from press.volume_list import Line
 from press.words import meaning
 
@@ -131,7 +131,7 @@ class Folder:
         if picture.exists():
             return []
         reading = ["--atlas"] * by_atlas(line, self.atlas)
-        words = [sys.executable, logs.ROOT / "tools/press", "plot", *reading, str(line.kind), os.path.abspath(line.path), picture]
+        words = [sys.executable, builds.ROOT / "tools/press", "plot", *reading, str(line.kind), os.path.abspath(line.path), picture]
         with tempfile.TemporaryFile() as errors:
             status = self.children.run(words, stdin=subprocess.DEVNULL, stdout=errors, stderr=errors)
             errors.seek(0)
