@@ -6,7 +6,7 @@ use Rattle.logger.proofs.Runs.{took_part}
 use Rattle.logger.proofs.read_more.Goals as goal
 
 pub returns-in-Ok-clause-falls : goal.returns-in-Ok-clause-falls
-returns-in-Ok-clause-falls g c = λ p old text f. subst (λ x. weight x < weight p) (sym c.took.ensures) (took_falls p c.args.q old text c.args.n c.in-Ok.k _ f)
+returns-in-Ok-clause-falls g c = λ p old text f. subst (λ x. weight x < weight p) (sym c.took.ensures) (took_falls p c.args.q old text c.args.n _ _ f)
 
 pub returns-in-Ok-clause-took : goal.returns-in-Ok-clause-took
 returns-in-Ok-clause-took g c =
