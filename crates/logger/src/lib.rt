@@ -1,85 +1,280 @@
 // The log program's input and output: what the machine asks for is read and written.
 #![tactic(auto)]
-ghost use Rattle.std.specs.Prelude.{ℕ, ◌≤◌, ◌<◌, List, length};
-ghost use Rattle.places.specs.declared.Ask.TheVariants as ask;
-ghost use Rattle.runs.specs.Whole.{weight, Falls};
 
-use libc::{STDERR_FILENO, STDIN_FILENO, STDOUT_FILENO};
+ghost use Rattle.std.specs.Prelude.{ℕ, ◌≤◌, ◌<◌, ◌≡◌, List, length, take, IsTrue, IfSome, IsOk, ◌++◌};
+ghost use Rattle.std.specs.Io.KnownBytes.{Appends};
+ghost use Rattle.places.specs.declared.Ask.TheVariants as ask;
+ghost use Rattle.places.specs.Machine.{most};
+ghost use Rattle.runs.specs.Whole.{weight, Falls};
+ghost use Rattle.logger.specs.Shell.{name_of, TookPart, Logged};
+
 use places::{Ask, Place};
+use std::io;
+use std::io::{Cursor, Read, Write};
 use streams::Mode;
 
+// How many bytes the words of a failure may have.
+const WORDS: usize = 128;
+
+// Where the number begins that std puts behind the system's words, or the text's length where there is none.
+fn words_end(text: &[u8]) -> usize
+    ensures { result ≤ length text.now }
+{
+    match text.iter().rposition(|b| *b == b'(') {
+        Some(i) => i.saturating_sub(1),
+        None => text.len(),
+    }
+}
+
+// Puts the system's words for a failure at the start of the buffer, and answers how many bytes they have.
+fn put_words(e: &io::Error, words: &mut [u8]) -> usize
+    ensures { result ≤ length words.old }
+{
+    let mut text = Cursor::new(&mut words[..]);
+    let _ = write!(text, "{e}");
+    let n = (text.position() as usize).min(words.len());
+    words_end(&words[..n])
+}
+
+// Tells what failed and why, in a line.
+fn fail<E: Write>(errors: &mut E, what: &[u8], e: &io::Error) {
+    let mut words = [0u8; WORDS];
+    let n = put_words(e, &mut words);
+    let _ = errors.write_all(what);
+    let _ = errors.write_all(b": ");
+    let _ = errors.write_all(&words[..n]);
+    let _ = errors.write_all(b"\n");
+}
+
 // Tells that standard input could not be read, by the name of the program that reads so.
-fn tell_input(mode: Mode) {
+fn tell_input<E: Write>(mode: Mode, errors: &mut E, e: &io::Error) {
     match mode {
-        Mode::Plain => os::fail(b"chemlog: standard input"),
-        Mode::Atlas => os::fail(b"atlaslog: standard input"),
+        Mode::Plain => fail(errors, b"chemlog: standard input", e),
+        Mode::Atlas => fail(errors, b"atlaslog: standard input", e),
     }
 }
 
 // Tells that a text could not be written.
-fn tell_output(mode: Mode) {
+fn tell_output<E: Write>(mode: Mode, errors: &mut E, e: &io::Error) {
     match mode {
-        Mode::Plain => os::fail(b"chemlog: standard output"),
-        Mode::Atlas => os::fail(b"atlaslog: standard output"),
+        Mode::Plain => fail(errors, b"chemlog: standard output", e),
+        Mode::Atlas => fail(errors, b"atlaslog: standard output", e),
     }
 }
 
-// Reads behind the first n bytes. A read that fails is told on standard error, and ends the run.
-fn read_more(mode: Mode, q: Place, n: usize, buf: &mut [u8]) -> Place
+// Reads behind the first n bytes. A read that fails is told on standard error, and ends the run: then not all was read.
+fn read_more<R: Read, E: Write>(
+    mode: Mode,
+    input: &mut R,
+    errors: &mut E,
+    whole: &mut bool,
+    q: Place,
+    n: usize,
+    buf: &mut [u8],
+) -> Place
     requires { n < length buf.old }
-    ensures { (p : Place) (old text : List ℕ) → Falls p old text (ask.Read q n) → weight result < weight p }
+    ensures falls { (p : Place) (old text : List ℕ) → Falls p old text (ask.Read q n) → weight result < weight p }
+    ensures before { IsTrue whole.new → IsTrue whole.old }
+    ensures took { IsTrue whole.new → IfSome (R.remaining input.old)
+        (λ xs. TookPart q n buf.old buf.new xs (R.remaining input.new) result) }
 {
-    let got = libc::read(STDIN_FILENO, &mut buf[n..]);
-    if got < 0 {
-        tell_input(mode);
-        return places::read_failed(q);
+    match input.read(&mut buf[n..]) {
+        Ok(k) => places::took(q, k, buf),
+        Err(e) => {
+            *whole = false;
+            tell_input(mode, errors, &e);
+            places::read_failed(q)
+        }
     }
-    let k = io::count(got, &buf[n..]);
-    places::took(q, k, buf)
+}
+
+// Where a run stands when a text was written, or not. What could not be written is told on standard error, and ends the run: then
+// not all was written.
+fn written<E: Write>(
+    mode: Mode,
+    errors: &mut E,
+    whole: &mut bool,
+    q: Place,
+    done: io::Result<()>,
+) -> Place
+    ensures falls { (p : Place) → weight q < weight p → weight result < weight p }
+    ensures before { IsTrue whole.new → IsTrue whole.old }
+    ensures ok { IsTrue whole.new → IsOk done × (result ≡ q) }
+    ensures same { IsOk done → errors.new ≡ errors.old }
+{
+    match done {
+        Ok(()) => places::wrote(q, true),
+        Err(e) => {
+            *whole = false;
+            tell_output(mode, errors, &e);
+            places::wrote(q, false)
+        }
+    }
 }
 
 // Writes the first n bytes. A write that fails is told on standard error, and ends the run.
-fn write_out(mode: Mode, fd: i32, q: Place, n: usize, out: &[u8]) -> Place
+fn write_out<W: Write, E: Write>(
+    mode: Mode,
+    output: &mut W,
+    errors: &mut E,
+    whole: &mut bool,
+    q: Place,
+    n: usize,
+    out: &[u8],
+) -> Place
     requires { n ≤ length out.now }
-    ensures { (p : Place) → weight q < weight p → weight result < weight p }
+    ensures falls { (p : Place) → weight q < weight p → weight result < weight p }
+    ensures before { IsTrue whole.new → IsTrue whole.old }
+    ensures wrote { IsTrue whole.new → Appends (W.contents output.old) (W.contents output.new) (take n out.now) × (result ≡ q) }
 {
-    let ok = io::write_all(fd, &out[0..n]);
-    if !ok {
-        tell_output(mode);
-    }
-    places::wrote(q, ok)
+    let done = output.write_all(&out[0..n]);
+    written(mode, errors, whole, q, done)
 }
 
 // The name of the program that reads so, before what it tells.
-fn tell_name(mode: Mode) {
-    match mode {
-        Mode::Plain => {
-            io::write_all(STDERR_FILENO, b"chemlog: ");
-        }
-        Mode::Atlas => {
-            io::write_all(STDERR_FILENO, b"atlaslog: ");
-        }
+fn tell_name<E: Write>(mode: Mode, errors: &mut E, whole: &mut bool)
+    ensures before { IsTrue whole.new → IsTrue whole.old }
+    ensures told { IsTrue whole.new → Appends (E.contents errors.old) (E.contents errors.new) (name_of mode) }
+{
+    let done = match mode {
+        Mode::Plain => errors.write_all(b"chemlog: "),
+        Mode::Atlas => errors.write_all(b"atlaslog: "),
+    };
+    if done.is_err() {
+        *whole = false;
     }
 }
 
 // Tells the first n bytes on standard error, behind the program's name.
-fn tell(mode: Mode, q: Place, n: usize, out: &[u8]) -> Place
+fn tell<E: Write>(
+    mode: Mode,
+    errors: &mut E,
+    whole: &mut bool,
+    q: Place,
+    n: usize,
+    out: &[u8],
+) -> Place
     requires { n ≤ length out.now }
-    ensures { (p : Place) → weight q < weight p → weight result < weight p }
+    ensures falls { (p : Place) → weight q < weight p → weight result < weight p }
+    ensures before { IsTrue whole.new → IsTrue whole.old }
+    ensures told { IsTrue whole.new → Appends (E.contents errors.old) (E.contents errors.new) (name_of mode ++ take n out.now) × (result ≡ q) }
 {
-    tell_name(mode);
-    write_out(mode, STDERR_FILENO, q, n, out)
+    tell_name(mode, errors, whole);
+    let done = errors.write_all(&out[0..n]);
+    written(mode, errors, whole, q, done)
 }
 
-// The whole program, by a reading.
-pub fn log_input(mode: Mode, buf: &mut [u8], out: &mut [u8]) {
+// The whole program, by a reading. Answers whether all was read and written; then what was written is the log of the input.
+pub fn log_input<R: Read, W: Write, E: Write>(
+    mode: Mode,
+    input: &mut R,
+    output: &mut W,
+    errors: &mut E,
+    buf: &mut [u8],
+    out: &mut [u8],
+) -> bool
+    ensures { IsTrue result → 1 ≤ length buf.old → 128 ≤ length out.old →
+        IfSome (R.remaining input.old) (λ xs. length xs ≤ most →
+        IfSome (W.contents output.old) (λ ys. Logged mode (length buf.old) xs ys (W.contents output.new))) }
+{
+    let mut whole = true;
     let mut p = places::start(mode);
-    while true {
+    loop {
         p = match machine::step(p, buf, out) {
-            Ask::Closed => return,
-            Ask::Write(q, n) => write_out(mode, STDOUT_FILENO, q, n, out),
-            Ask::Tell(q, n) => tell(mode, q, n, out),
-            Ask::Read(q, n) => read_more(mode, q, n, buf),
+            Ask::Closed => return whole,
+            Ask::Write(q, n) => write_out(mode, output, errors, &mut whole, q, n, out),
+            Ask::Tell(q, n) => tell(mode, errors, &mut whole, q, n, out),
+            Ask::Read(q, n) => read_more(mode, input, errors, &mut whole, q, n, buf),
         };
+    }
+}
+
+#[cfg(test)]
+mod tests {
+    use super::*;
+    use std::test::Fail;
+
+    // Fails as the system does by its error of this number.
+    #[derive(Drop)]
+    struct Broken(i32);
+
+    impl Read for Broken {
+        fn read(&mut self, _buf: &mut [u8]) -> io::Result<usize> {
+            Err(io::Error::from_raw_os_error(self.0))
+        }
+    }
+
+    impl Write for Broken {
+        fn write(&mut self, _buf: &[u8]) -> io::Result<usize> {
+            Err(io::Error::from_raw_os_error(self.0))
+        }
+
+        fn flush(&mut self) -> io::Result<()> {
+            Ok(())
+        }
+    }
+
+    #[test]
+    fn an_input_without_a_digit(rt: HostRuntime) -> Result<(), Fail> {
+        let mut output = Vec::new(rt.alloc());
+        let mut errors = Vec::new(rt.alloc());
+        let mut buf = [0u8; 256];
+        let mut out = [0u8; 256];
+        let whole = log_input(
+            Mode::Plain,
+            &mut b"".as_slice(),
+            &mut output,
+            &mut errors,
+            &mut buf,
+            &mut out,
+        );
+        assert!(rt; whole);
+        assert_eq!(rt; output.as_slice(), b"e 1 0\n".as_slice());
+        assert_eq!(rt; errors.as_slice(), b"".as_slice());
+        Ok(())
+    }
+
+    #[test]
+    fn a_read_that_fails(rt: HostRuntime) -> Result<(), Fail> {
+        let mut output = Vec::new(rt.alloc());
+        let mut errors = Vec::new(rt.alloc());
+        let mut buf = [0u8; 256];
+        let mut out = [0u8; 256];
+        let whole = log_input(
+            Mode::Atlas,
+            &mut b"4".as_slice().chain(Broken(5)),
+            &mut output,
+            &mut errors,
+            &mut buf,
+            &mut out,
+        );
+        assert!(rt; !whole);
+        assert_eq!(rt; output.as_slice(), b"".as_slice());
+        assert_eq!(rt;
+            errors.as_slice(),
+            b"atlaslog: standard input: Input/output error\n".as_slice()
+        );
+        Ok(())
+    }
+
+    #[test]
+    fn a_write_that_fails(rt: HostRuntime) -> Result<(), Fail> {
+        let mut errors = Vec::new(rt.alloc());
+        let mut buf = [0u8; 256];
+        let mut out = [0u8; 256];
+        let whole = log_input(
+            Mode::Plain,
+            &mut b"1".as_slice(),
+            &mut Broken(28),
+            &mut errors,
+            &mut buf,
+            &mut out,
+        );
+        assert!(rt; !whole);
+        assert_eq!(rt;
+            errors.as_slice(),
+            b"chemlog: standard output: No space left on device\n".as_slice()
+        );
+        Ok(())
     }
 }

@@ -1,13 +1,14 @@
 // Answers stored cases: frames from standard input, the texts of the answers to standard output.
 #![tactic(auto)]
+
 ghost use Rattle.std.specs.Prelude.{◌+◌, ◌*◌, ◌≤◌, ◌<◌, ◌≡◌, length};
 
 use error::Stopped;
 use fetch::{Fetched, fetch_text};
-use libc::{STDIN_FILENO, STDOUT_FILENO};
 use metadata::{ChemstationMetadata, Opened};
 use opening::Opening;
 use reader::Closing;
+use std::io::{Read, Write};
 use streams::State;
 use sums::Total;
 
@@ -15,24 +16,24 @@ use sums::Total;
 
 // Writes what stands in out if there is no room for 32,768 bytes more, and answers where they may begin. What can't be
 // written is missing in the comparison.
-fn room(out: &[u8], at: usize) -> usize
+fn room<W: Write>(output: &mut W, out: &[u8], at: usize) -> usize
     requires { (at ≤ length out.now) × (32768 ≤ length out.now) }
     ensures { result + 32768 ≤ length out.now }
 {
     if out.len() - at >= 32768 {
         return at;
     }
-    io::write_all(STDOUT_FILENO, &out[0..at]);
+    let _ = output.write_all(&out[0..at]);
     0
 }
 
 // Says what should not be, so that the comparison fails.
-fn complain(out: &[u8], at: usize, line: &[u8]) -> usize
+fn complain<W: Write>(output: &mut W, out: &[u8], at: usize, line: &[u8]) -> usize
     requires { at ≤ length out.now }
     ensures { result ≡ 0 }
 {
-    io::write_all(STDOUT_FILENO, &out[0..at]);
-    io::write_all(STDOUT_FILENO, line);
+    let _ = output.write_all(&out[0..at]);
+    let _ = output.write_all(line);
     0
 }
 
@@ -113,7 +114,7 @@ fn put_text(kind: u8, number: u8, s: &[u8], lent: &mut [u8], out: &mut [u8], at:
 }
 
 // The eight texts.
-fn put_texts(kind: u8, s: &[u8], out: &mut [u8], at: usize) -> usize
+fn put_texts<W: Write>(kind: u8, s: &[u8], output: &mut W, out: &mut [u8], at: usize) -> usize
     requires { (at ≤ length out.old) × (32768 ≤ length out.old) }
     ensures { result ≤ length out.old }
 {
@@ -121,14 +122,14 @@ fn put_texts(kind: u8, s: &[u8], out: &mut [u8], at: usize) -> usize
     let mut a = at;
     let mut number: u8 = 1;
     while number < 9 {
-        a = room(out, a);
+        a = room(output, out, a);
         a = put_text(kind, number, s, &mut lent, out, a);
         number += 1;
     }
     a
 }
 
-fn header_case(kind: u8, s: &[u8], out: &mut [u8], at: usize) -> usize
+fn header_case<W: Write>(kind: u8, s: &[u8], output: &mut W, out: &mut [u8], at: usize) -> usize
     requires { (at + 4096 ≤ length out.old) × (32768 ≤ length out.old) }
     ensures { result ≤ length out.old }
 {
@@ -143,7 +144,7 @@ fn header_case(kind: u8, s: &[u8], out: &mut [u8], at: usize) -> usize
         } => {
             let d = o.metadata;
             let a = put_description(out, at, d);
-            put_texts(kind, s, out, a)
+            put_texts(kind, s, output, out, a)
         }
     }
 }
@@ -151,20 +152,35 @@ fn header_case(kind: u8, s: &[u8], out: &mut [u8], at: usize) -> usize
 // ---- logs
 
 // The records behind a header, all bytes at hand in each call, and the closing line.
-fn put_records(st: State, s: &[u8], from: usize, last: bool, out: &mut [u8], at: usize) -> usize
+fn put_records<W: Write>(
+    st: State,
+    s: &[u8],
+    from: usize,
+    last: bool,
+    output: &mut W,
+    out: &mut [u8],
+    at: usize,
+) -> usize
     requires { (from ≤ length s.now) × (at ≤ length out.old) × (32768 ≤ length out.old) }
     ensures { result ≤ length out.old }
 {
     let w = runlog::log_records(st, s, from, last, out, at, Total::Absent);
     let closing = w.closing;
-    let a = room(out, w.at);
+    let a = room(output, out, w.at);
     match closing {
-        Closing::Full => complain(out, a, b"? a text longer than the buffer\n"),
+        Closing::Full => complain(output, out, a, b"? a text longer than the buffer\n"),
         Closing::Stopped(z) => lines::put_end(out, a, z, w.count),
     }
 }
 
-fn log_case(kind: u8, s: &[u8], last: bool, out: &mut [u8], at: usize) -> usize
+fn log_case<W: Write>(
+    kind: u8,
+    s: &[u8],
+    last: bool,
+    output: &mut W,
+    out: &mut [u8],
+    at: usize,
+) -> usize
     requires { (at + 4096 ≤ length out.old) × (32768 ≤ length out.old) }
     ensures { result ≤ length out.old }
 {
@@ -175,7 +191,7 @@ fn log_case(kind: u8, s: &[u8], last: bool, out: &mut [u8], at: usize) -> usize
         Opening::Stopped(z) => lines::put_end(out, at, z, 0),
         Opening::Run(state, n) => {
             let a = lines::put_header(out, at, d.edition, d.size);
-            put_records(state, s, n, last, out, a)
+            put_records(state, s, n, last, output, out, a)
         }
     }
 }
@@ -183,25 +199,32 @@ fn log_case(kind: u8, s: &[u8], last: bool, out: &mut [u8], at: usize) -> usize
 // ---- cases
 
 // A case in the mode of its letter.
-fn answer(mode: u8, kind: u8, s: &[u8], out: &mut [u8], at: usize) -> usize
+fn answer<W: Write>(
+    mode: u8,
+    kind: u8,
+    s: &[u8],
+    output: &mut W,
+    out: &mut [u8],
+    at: usize,
+) -> usize
     requires { (at + 4096 ≤ length out.old) × (32768 ≤ length out.old) }
     ensures { result ≤ length out.old }
 {
     match mode {
-        b'h' => header_case(kind, s, out, at),
-        b'w' => log_case(kind, s, true, out, at),
-        b's' => log_case(kind, s, false, out, at),
-        _ => complain(out, at, b"? no such mode\n"),
+        b'h' => header_case(kind, s, output, out, at),
+        b'w' => log_case(kind, s, true, output, out, at),
+        b's' => log_case(kind, s, false, output, out, at),
+        _ => complain(output, out, at, b"? no such mode\n"),
     }
 }
 
 // Fetch alone: the number of the text, the length of the memory to lend, the kind digit, the file.
-fn fetch_case(s: &[u8], out: &mut [u8], at: usize) -> usize
+fn fetch_case<W: Write>(s: &[u8], output: &mut W, out: &mut [u8], at: usize) -> usize
     requires { (at + 4096 ≤ length out.old) × (32768 ≤ length out.old) }
     ensures { result ≤ length out.old }
 {
     if s.len() < 3 {
-        return complain(out, at, b"? a case that is cut\n");
+        return complain(output, out, at, b"? a case that is cut\n");
     }
     let mut lent = [0u8; 1024];
     let n = wide(s[1]) as usize;
@@ -216,26 +239,41 @@ fn fetch_case(s: &[u8], out: &mut [u8], at: usize) -> usize
 }
 
 // The case of a frame: a letter, a kind digit that may be missing, and the file.
-fn put_case(s: &[u8], number: u64, out: &mut [u8], at: usize) -> usize
+fn put_case<W: Write>(s: &[u8], number: u64, output: &mut W, out: &mut [u8], at: usize) -> usize
     requires { (at ≤ length out.old) × (32768 ≤ length out.old) }
     ensures { result ≤ length out.old }
 {
-    let a = room(out, at);
+    let a = room(output, out, at);
     let b = lines::put_letter(out, a, b'=');
     let c = digits::put_number(out, b, number, b'\n');
     if s.len() == 0 {
-        return complain(out, c, b"? an empty frame\n");
+        return complain(output, out, c, b"? an empty frame\n");
     }
     if s[0] == b'f' {
-        return fetch_case(&s[1..], out, c);
+        return fetch_case(&s[1..], output, out, c);
     }
     if s.len() == 1 {
-        return answer(s[0], 0, b"", out, c);
+        return answer(s[0], 0, b"", output, out, c);
     }
-    answer(s[0], digits::kind_of(s[1]), &s[2..], out, c)
+    answer(s[0], digits::kind_of(s[1]), &s[2..], output, out, c)
 }
 
 // ---- input
+
+// Reads until the buffer is full, the input ends or a read fails, and answers how many bytes came.
+fn read_full<R: Read>(input: &mut R, buf: &mut [u8]) -> usize
+    ensures { result ≤ length buf.old }
+{
+    let mut done: usize = 0;
+    while done < buf.len() {
+        match input.read(&mut buf[done..]) {
+            Ok(0) => return done,
+            Ok(n) => done += n,
+            Err(_) => return done,
+        }
+    }
+    done
+}
 
 #[derive(Clone, Copy)]
 enum Status {
@@ -255,11 +293,11 @@ struct Frame {
     bytes: usize,
 }
 
-fn next_frame(buf: &mut [u8]) -> Frame
+fn next_frame<R: Read>(input: &mut R, buf: &mut [u8]) -> Frame
     ensures { result.bytes ≤ length buf.old }
 {
     let mut head = [0u8; 4];
-    let k = io::read_full(STDIN_FILENO, &mut head);
+    let k = read_full(input, &mut head);
     if k == 0 {
         return Frame {
             status: Status::End,
@@ -279,7 +317,7 @@ fn next_frame(buf: &mut [u8]) -> Frame
             bytes: 0,
         };
     }
-    if io::read_full(STDIN_FILENO, &mut buf[0..n]) < n {
+    if read_full(input, &mut buf[0..n]) < n {
         return Frame {
             status: Status::Cut,
             bytes: 0,
@@ -292,39 +330,39 @@ fn next_frame(buf: &mut [u8]) -> Frame
 }
 
 // All frames. What is wrong with the input is said, so that no case is passed over in silence.
-fn replay(buf: &mut [u8], out: &mut [u8])
+fn replay<R: Read, W: Write>(input: &mut R, output: &mut W, buf: &mut [u8], out: &mut [u8])
     requires { 32768 ≤ length out.old }
 {
     let mut at: usize = 0;
     let mut number: u64 = 0;
     while number < u64::MAX {
         number += 1;
-        let f = next_frame(buf);
+        let f = next_frame(input, buf);
         let n = f.bytes;
         let status = f.status;
         match status {
             Status::Whole => {
-                at = put_case(&buf[0..n], number, out, at);
+                at = put_case(&buf[0..n], number, output, out, at);
             }
             Status::End => {
-                io::write_all(STDOUT_FILENO, &out[0..at]);
+                let _ = output.write_all(&out[0..at]);
                 return;
             }
             Status::Cut => {
-                complain(out, at, b"? a frame that is cut\n");
+                complain(output, out, at, b"? a frame that is cut\n");
                 return;
             }
             Status::TooLong => {
-                complain(out, at, b"? a frame longer than the buffer\n");
+                complain(output, out, at, b"? a frame longer than the buffer\n");
                 return;
             }
         }
     }
-    complain(out, at, b"? more frames than can be numbered\n");
+    complain(output, out, at, b"? more frames than can be numbered\n");
 }
 
-fn main() {
+fn main(rt: HostRuntime) {
     let mut buf = [0u8; 65536];
     let mut out = [0u8; 65536];
-    replay(&mut buf, &mut out);
+    replay(&mut rt.stdin(), &mut rt.stdout(), &mut buf, &mut out);
 }

@@ -1,5 +1,5 @@
 pub mod Lengths
 pub mod Falls
 mod Ends
-mod Owes
+pub mod Owes
 mod There

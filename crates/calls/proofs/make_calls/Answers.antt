@@ -17,7 +17,7 @@ returns-then-not-all_equal t =
     let a = t.before.before.before.before.before.before.before.before.before.before.before.args in
     let cs = calls_of a.calls.now in
     let F = a.file.now in
-    let d = demanded a.mode a.kind cs F t.before.before.demand-three.ensures λ i. omega (arith, t.before.before.before.before.before.before.before.before.before.before.shared-slice-known.given i) in
+    let d = demanded a.mode a.kind cs F t.before.before.demand_three.ensures λ i. omega (arith, t.before.before.before.before.before.before.before.before.before.before.shared-slice-known.given i) in
     let e = sym t.before.all-equal.ensures ∙ not-true _ t.if1.true in
     record { answer = rw e; columns = rw e; demand = d }
 
