@@ -13,12 +13,11 @@ use Rattle.calls.proofs.Opened.{opened, demanded, above, accepted, has_room, no_
 use Rattle.calls.proofs.make_calls.Goals as goal
 
 pub returns-then-not-all_equal : goal.returns-then-not-all_equal
-returns-then-not-all_equal t =
-    let a = t.before.before.before.before.before.before.before.before.before.before.before.args in
-    let cs = calls_of a.calls.now in
-    let F = a.file.now in
-    let d = demanded a.mode a.kind cs F t.before.before.demand_three.ensures λ i. omega (arith, t.before.before.before.before.before.before.before.before.before.before.shared-slice-known.given i) in
-    let e = sym t.before.all-equal.ensures ∙ not-true _ t.if1.true in
+returns-then-not-all_equal c =
+    let cs = calls_of c.args.calls.now in
+    let F = c.args.file.now in
+    let d = demanded c.args.mode c.args.kind cs F c.demand_three.ensures λ i. omega (arith, c.shared_slice_known-1.given i) in
+    let e = sym c.all_equal.ensures ∙ not-true _ c.if-not-all_equal.true-raw in
     record { answer = rw e; columns = rw e; demand = d }
 
 pub returns-in_default : goal.returns-in_default
@@ -57,3 +56,7 @@ returns-in-Run c =
     let h = accepted cs _ (columns c.args.time.now c.args.axis.now c.args.unscaled.now c.args.scaled.now c.args.minutes.now c.args.leftover.now) (sym c.all_equal.ensures ∙ not-false _ c.if-not-all_equal.false-raw) (sym c.asked_by_all.ensures ∙ c.in-Records.is) in
     let q = opened c.args.mode c.args.kind F _ c.open_by-o.ensures _ c.in-Run.is in
     from_state c.args.mode c.args.kind cs F _ (columns c.args.time.now c.args.axis.now c.args.unscaled.now c.args.scaled.now c.args.minutes.now c.args.leftover.now) h _ _ d q _ _ c.calls_from.ensures
+
+pub slice_bounds-calls_from-start : goal.slice_bounds-calls_from-start
+slice_bounds-calls_from-start c =
+    taken_within _ (start_by c.args.mode c.args.kind) c.args.file.now (opened c.args.mode c.args.kind c.args.file.now _ c.open_by-o.ensures _ c.in-Run.is)

@@ -15,7 +15,7 @@ moment_of-requires c =
 
 pub date_at-requires : goal.date_at-requires
 date_at-requires c =
-    rw c.moment_of.ensures (in_span c.args.f c.numbers_of-n.result.values (moment_of-requires c c.moment_of.lifetimes))
+    rw c.moment_of.ensures (in_span c.args.f c.numbers_of-n.result.values (in_ranges c.args.f c.args.t.now c.numbers_of-n.result.values c.numbers_of-n.result.count (its_values c.numbers_of-n.result (values_of (items_of c.args.f) c.args.t.now) c.if-not-n.false c.numbers_of-n.ensures.values) c.numbers_of-n.ensures.room))
 
 pub returns : goal.returns
 returns c =

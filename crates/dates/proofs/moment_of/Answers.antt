@@ -14,13 +14,13 @@ half_day : {f g : Form} (v : List ℕ) (k : ℕ) → InRanges (items_of f) v →
 half_day v k r e h = ((subst (λ (x : Form). InRanges (items_of x) v) e r).each k h).1
 
 pub hour_of-requires : goal.hour_of-requires
-hour_of-requires c = half_day c.args.t2 5 c.requires c.in-Second.is (omega arith)
+hour_of-requires c = half_day c.args.v 5 c.requires c.in-Second.is (omega arith)
 
 pub hour_of-requires-in-Third : goal.hour_of-requires-in-Third
-hour_of-requires-in-Third c = half_day c.args.t2 5 c.requires c.in-Third.is (omega arith)
+hour_of-requires-in-Third c = half_day c.args.v 5 c.requires c.in-Third.is (omega arith)
 
 pub hour_of-requires-in-Fourth : goal.hour_of-requires-in-Fourth
-hour_of-requires-in-Fourth c = half_day c.args.t2 6 c.requires c.in-Fourth.is (omega arith)
+hour_of-requires-in-Fourth c = half_day c.args.v 6 c.requires c.in-Fourth.is (omega arith)
 
 pub returns-in-First : goal.returns-in-First
 unfolding moment_of

@@ -8,6 +8,7 @@ use borrow.Author.Rules.{rules}
 use Rattle.dates.proofs.Walk.{Walked, begun, not_found, on_passed, on_value, ended, most_items}
 use Rattle.dates.specs.Dates.{items_of}
 use Rattle.dates.proofs.numbers_of.Goals as goal
+use Rattle.dates.proofs.numbers_of.Goals.{in-Passed, in-Value}
 
 pub loop-k-init : goal.loop-k-init
 loop-k-init c = (c.items_in-items.ensures, begun _ _ _ refl)
@@ -54,11 +55,11 @@ loop-k-preserved c =
     let e = rw c.item_of.ensures at c.item_at.ensures in
     let h = rw c.loop-k.invariant.0 at c.loop-k-test.true in (
       c.loop-k.invariant.0,
-      ⊎_elim
-          (λ w. rw (w.3, w.4, w.5) (on_passed _ _ _ _ _ _ c.loop-k.invariant.1 h c.item_at.result w.1.given.0.0 e w.1.given.1))
-          (λ w. rw (w.3, w.4, w.5) (on_value _ _ _ _ _ _ c.loop-k.invariant.1 h c.item_at.result w.1.given.0.0 w.1.given.0.1.0 e w.1.given.1
-          (omega (arith, c.loop-k.invariant.1.few, h, most_items c.args.f))))
-          c.in-Nothing.branch,
+      elim c.match-item_at.branch [
+        | in-Passed w ↦ rw (w.values-is, w.n-is, w.at-is) (on_passed _ _ _ _ _ _ c.loop-k.invariant.1 h c.item_at.result w.in-Passed.w e w.in-Passed.is)
+        | in-Value w ↦ rw (w.values-is, w.n-is, w.at-is) (on_value _ _ _ _ _ _ c.loop-k.invariant.1 h c.item_at.result w.in-Value.v w.in-Value.w e w.in-Value.is
+            (omega (arith, c.loop-k.invariant.1.few, h, most_items c.args.f)))
+      ],
     )
 
 pub returns : goal.returns

@@ -22,7 +22,7 @@ go_on-requires c =
 pub returns-in-Full : goal.returns-in-Full
 unfolding logs_records
 returns-in-Full c =
-    logged_on c.args.p c.args.st c.args.buf.now _ _ _ _ c.log_records-w.ensures _ _ (omega (arith, (overflow_add-p c).fits)) c.moves-m.ensures c.totals-q.ensures
+    logged_on c.args.p c.args.st c.args.buf.now _ _ _ _ c.log_records-w.ensures _ _ (omega (arith, c.if-w-p.false)) c.moves-m.ensures c.totals-q.ensures
     (closing_as _ _ _ _ _ _ c.in-Full.is (c.write-in-Full.ensures _ _))
 
 -- the output buffer is as long behind the records, and behind the answer
@@ -32,5 +32,5 @@ shape_of-out-in-Stopped c = omega (arith, c.out-in-Stopped-1.given, c.out-1.give
 pub returns-in-Stopped : goal.returns-in-Stopped
 unfolding logs_records
 returns-in-Stopped c =
-    logged_on c.args.p c.args.st c.args.buf.now _ _ _ _ c.log_records-w.ensures _ _ (omega (arith, (overflow_add-p c).fits)) c.moves-m.ensures c.totals-q.ensures
-    (closing_as _ _ _ _ _ _ c.in-Stopped.is c.go_on.ensures)
+    logged_on c.args.p c.args.st c.args.buf.now _ _ _ _ c.log_records-w.ensures _ _ (omega (arith, c.if-w-p.false)) c.moves-m.ensures c.totals-q.ensures
+    (closing_as _ c.log_records-w.result.state c.args.buf.now c.log_records-w.new.out _ _ c.in-Stopped.is c.go_on.ensures)
