@@ -1,5 +1,6 @@
 // The run date of a file, and whether it lies in a window of time.
 #![tactic(auto)]
+
 ghost use Rattle.std.specs.Prelude.{◌≡◌};
 ghost use Rattle.rules.specs.Rule.{gives};
 ghost use Rattle.layouts.specs.Table.{field_of};

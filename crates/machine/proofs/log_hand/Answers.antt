@@ -23,7 +23,7 @@ pub returns-in-Full : goal.returns-in-Full
 unfolding logs_records
 returns-in-Full c =
     logged_on c.args.p c.args.st c.args.buf.now _ _ _ _ c.log_records-w.ensures _ _ (omega (arith, c.if-w-p.false)) c.moves-m.ensures c.totals-q.ensures
-    (closing_as _ _ _ _ _ _ c.in-Full.is (c.write-in-Full.ensures _ _))
+    (closing_as _ c.log_records-w.result.state _ _ _ _ c.in-Full.is (c.write-in-Full.ensures _ _))
 
 -- the output buffer is as long behind the records, and behind the answer
 pub shape_of-out-in-Stopped : goal.shape_of-out-in-Stopped

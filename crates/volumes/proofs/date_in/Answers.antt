@@ -1,0 +1,25 @@
+-- An old text as it stands, a new one decoded.
+use mathlib.Core.Path.{sym, ap, ◌∙◌}
+use native.Mathlib.Omega.{arith}
+use lib.Seq.{length-take-le}
+use borrow.Author.Rules.{rules}
+use Rattle.dates.specs.Dates.{date_of}
+use Rattle.volumes.proofs.Told.{in_buffer, the_text, too_long}
+use Rattle.volumes.proofs.date_in.Goals as goal
+
+pub returns-then-d-le102 : goal.returns-then-d-le102
+returns-then-d-le102 c = c.date_of.ensures ∙ ap date_of (c.text_bytes-bytes.ensures.old c.if-d-le102.true)
+
+pub slice_bounds-text-end : goal.slice_bounds-text-end
+slice_bounds-text-end c = in_buffer _ _ _ _ c.decode_utf16-t.ensures.written _ c.in-Bytes.is
+
+pub slice_bounds-date_of-end : goal.slice_bounds-date_of-end
+slice_bounds-date_of-end c = sym (length-take-le _ _ (in_buffer _ _ _ _ c.decode_utf16-t.ensures.written _ c.in-Bytes.is))
+
+pub returns-in-Bytes : goal.returns-in-Bytes
+returns-in-Bytes c =
+    let t = the_text _ _ _ _ c.decode_utf16-t.ensures.written _ c.in-Bytes.is in
+    c.date_of-in-Bytes.ensures ∙ ap date_of (t ∙ c.text_bytes-bytes.ensures.new c.if-d-le102.false)
+
+pub returns-in-NoRoom : goal.returns-in-NoRoom
+returns-in-NoRoom c = too_long _ _ _ _ c.decode_utf16-t.ensures.written (omega arith) c.in-NoRoom.is ∙ ap date_of (c.text_bytes-bytes.ensures.new c.if-d-le102.false)
