@@ -86,7 +86,7 @@ no_wait : (most room : ℕ) (st : State) (bs : List ℕ) → ¬ ((read_into most
 unfolding read_into
 no_wait zero room st bs = λ e. false≢true cc
 no_wait (suc most) room st bs =
-    by_step most room true st bs _ (λ g. ¬ (g.closing ≡ stopped more_bytes)) (λ h e. false≢true cc)
+    by_step most room true st bs (λ x left. read_into most (room - length (record_line x.shows)) true x.after left) (λ g. ¬ (g.closing ≡ stopped more_bytes)) (λ h e. false≢true cc)
     (λ z h r e. never_waits (rule st) bs (r ∙ (let q : z ≡ more_bytes = cc in ap stops q))) (λ x n h r. no_wait most (room - length (record_line x.shows)) x.after _)
 
 waits_before : (last : Bool) (most room : ℕ) (st : State) (bs : List ℕ) → (read_into most room last st bs).closing ≡ stopped more_bytes → last ≡ false

@@ -113,7 +113,7 @@ pub lines_fit : (most room : ℕ) (last : Bool) (st : State) (bs : List ℕ) →
 unfolding read_into lines_of
 lines_fit zero room last st bs = omega arith
 lines_fit (suc most) room last st bs =
-    by_step most room last st bs _ (λ g. length (lines_of g.records) ≤ room) (λ h. omega arith) (λ z h e. omega arith)
+    by_step most room last st bs (λ x left. read_into most (room - length (record_line x.shows)) last x.after left) (λ g. length (lines_of g.records) ≤ room) (λ h. omega arith) (λ z h e. omega arith)
     (λ x n h e.
     let ih = lines_fit most (room - length (record_line x.shows)) last x.after (drop n bs) in
     omega (arith, ih, record_long x.shows, length-append (record_line x.shows) (lines_of (read_into most (room - length (record_line x.shows)) last x.after (drop n bs)).records)))

@@ -84,7 +84,7 @@ through : (most room size : ℕ) (last : Bool) (G : List ℕ) (st : State) (bs :
 unfolding read_into lines_of
 through zero room size last G st bs c t z v b r = record { rest = v; lines = refl; owed = subst (λ n. RestOf size st (bs ++ G) n t z v) (sym (add-zero c)) r }
 through (suc most) room size last G st bs c t z v b r =
-    by_step most room last st bs _ (Through size G bs c t z v) (λ h. none full) (λ y h e. none (stopped y))
+    by_step most room last st bs (λ x left. read_into most (room - length (record_line x.shows)) last x.after left) (Through size G bs c t z v) (λ h. none full) (λ y h e. none (stopped y))
     (λ x n h e.
     let within = taken_within last (rule st) bs e in
     let here = in_buffer_lem last size (rule st) bs G (got x n) b e (λ q. got≢stops q) in
@@ -230,7 +230,7 @@ stopped_at : (most room : ℕ) (last : Bool) (st : State) (bs : List ℕ) (y : S
 unfolding read_into
 stopped_at zero room last st bs y = λ e. absurd (full≢stopped e)
 stopped_at (suc most) room last st bs y =
-    by_step most room last st bs _ (λ g. g.closing ≡ stopped y → read last (rule g.state) (drop g.consumed bs) ≡ stops y) (λ h e. absurd (full≢stopped e)) (λ z h r e. r ∙ ap stops (same z e))
+    by_step most room last st bs (λ x left. read_into most (room - length (record_line x.shows)) last x.after left) (λ g. g.closing ≡ stopped y → read last (rule g.state) (drop g.consumed bs) ≡ stops y) (λ h e. absurd (full≢stopped e)) (λ z h r e. r ∙ ap stops (same z e))
     (λ x n h r e. let g = read_into most (room - length (record_line x.shows)) last x.after (drop n bs) in ap (read last (rule g.state)) (sym (drop-drop g.consumed n bs)) ∙ stopped_at most (room - length (record_line x.shows)) last x.after (drop n bs) y e)
   where
     same : (z : Stop) → stopped z ≡ stopped y → z ≡ y
