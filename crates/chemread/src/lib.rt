@@ -1,5 +1,6 @@
 // Open, Fetch a text, all texts at once, Fill columns, the sum of a column, the run date and windows of time for C: include/chemstation.h declares them.
 #![tactic(auto)]
+
 ghost use Rattle.std.specs.Prelude.{◌≡◌, true};
 ghost use Rattle.rules.specs.Rule.{read};
 ghost use Rattle.error.specs.Number.{stop_of, stop_number, closing_number};

@@ -1,0 +1,6 @@
+-- As opened by the reading.
+use borrow.Author.Rules.{rules}
+use Rattle.chemread.proofs.chemstation_open.Goals as goal
+
+pub returns : goal.returns
+returns c = c.open_into.ensures
