@@ -1,6 +1,6 @@
 -- Texts behind a length byte: document 01, 'Header' and 'Open' (FORMAT 4.3).
 use Rattle.std.specs.Prelude.{cond, List, ℕ, ◌+◌, ◌-◌, ◌*◌, ltb, eqb, length, get_or}
-use Rattle.rules.specs.Rule.{Rule, gives, refuses, ◌>>=◌, ◌>>◌}
+use Rattle.rules.specs.Rule.{Rule, gives, refuses, ◌>>◌}
 use Rattle.error.specs.Number.{number_of}
 use Rattle.common.specs.Bytes.{part}
 use Rattle.trim.specs.WhiteSpace.{trimmed_of}

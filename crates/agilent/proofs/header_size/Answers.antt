@@ -1,6 +1,5 @@
 -- By whether the kind is MS.
 use mathlib.Core.Path.{refl}
-use borrow.Author.Rules.{rules}
 use borrow.Author.Tests.{eq-eqb, ne_eqb}
 use Rattle.agilent.proofs.header_size.Goals as goal
 

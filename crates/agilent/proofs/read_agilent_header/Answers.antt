@@ -1,11 +1,10 @@
 -- Each answer is what the rule of a header reads of the bytes that are there.
-use mathlib.Core.Path.{◌≡◌, refl, sym, ap, ap₂, ◌∙◌}
+use mathlib.Core.Path.{refl, sym, ap, ap₂, ◌∙◌}
 use native.Mathlib.Omega.{arith}
-use borrow.Author.Rules.{rules}
 use borrow.Author.Tests.{le-leb, lt-leb}
 use Rattle.rules.specs.Rule.{got, stops}
 use Rattle.agilent.specs.Header.{size_of}
-use Rattle.agilent.proofs.HeaderLaws.{size_in, is_known, size_unknown, size_short, size_word, size_small, size_large, size_cut, size_whole}
+use Rattle.agilent.proofs.HeaderLaws.{is_known, size_unknown, size_short, size_word, size_small, size_large, size_cut, size_whole}
 use Rattle.agilent.proofs.read_agilent_header.Goals as goal
 
 pub returns-then-kind-lt1 : goal.returns-then-kind-lt1

@@ -1,7 +1,6 @@
 -- Each answer is what the rule of the array reads, in the width that the state tells.
 use mathlib.Core.Path.{sym, ap, ◌∙◌}
 use native.Mathlib.Omega.{arith}
-use borrow.Author.Rules.{rules}
 use Rattle.rules.specs.Rule.{stops}
 use Rattle.array.specs.Array.{stored}
 use Rattle.array.proofs.ArrayLaws.{array_none, array_cut, array_gives}

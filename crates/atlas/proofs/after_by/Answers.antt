@@ -1,6 +1,5 @@
 -- By the state's case.
 use mathlib.Core.Path.{refl, sym, ap, ◌∙◌}
-use borrow.Author.Rules.{rules}
 use Rattle.atlas.specs.Atlas.{after_by}
 use Rattle.atlas.proofs.AtlasLaws.{kept}
 use Rattle.atlas.proofs.after_by.Goals as goal

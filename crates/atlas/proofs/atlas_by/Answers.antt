@@ -1,6 +1,5 @@
 -- By the answer: a record has the state of the reading behind it.
 use mathlib.Core.Path.{sym, ap}
-use borrow.Author.Rules.{rules}
 use Rattle.rules.specs.Rule.{map_read}
 use Rattle.streams.specs.Next.{answer_of}
 use Rattle.atlas.specs.Atlas.{item_by}

@@ -1,6 +1,5 @@
 -- By the reading.
 use mathlib.Core.Path.{refl}
-use borrow.Author.Rules.{rules}
 use Rattle.atlas.proofs.dad_after.Goals as goal
 
 pub returns-in-Plain : goal.returns-in-Plain

@@ -1,6 +1,5 @@
 -- By the state's case.
 use mathlib.Core.Path.{sym, ap}
-use borrow.Author.Rules.{rules}
 use Rattle.atlas.specs.Atlas.{debit_of}
 use Rattle.atlas.proofs.debit_of.Goals as goal
 

@@ -1,6 +1,5 @@
 -- By the state's case.
 use mathlib.Core.Path.{sym, ap, ◌∙◌}
-use borrow.Author.Rules.{rules}
 use Rattle.streams.specs.declared.State.TheVariants.{Dad}
 use Rattle.atlas.specs.Atlas.{plain_of}
 use Rattle.atlas.proofs.plain_of.Goals as goal

@@ -1,6 +1,5 @@
 -- By whether it is done.
 use mathlib.Core.Path.{sym, ◌∙◌}
-use borrow.Author.Rules.{rules}
 use Rattle.atlas.proofs.scan_due.Goals as goal
 
 pub returns-then-dad_done : goal.returns-then-dad_done

@@ -1,6 +1,5 @@
 -- By the reading.
 use mathlib.Core.Path.{sym, ap, ◌∙◌}
-use borrow.Author.Rules.{rules}
 use Rattle.atlas.specs.Atlas.{scans_by}
 use Rattle.atlas.proofs.scans_by.Goals as goal
 

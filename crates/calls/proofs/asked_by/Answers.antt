@@ -1,6 +1,5 @@
 -- By the number.
 use mathlib.Core.Path.{sym, ap}
-use borrow.Author.Rules.{rules}
 use Rattle.rules.specs.Calls.{asks}
 use Rattle.calls.proofs.Calling.{fill_of_lem}
 use Rattle.calls.proofs.asked_by.Goals as goal

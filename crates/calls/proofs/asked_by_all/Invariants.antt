@@ -1,13 +1,9 @@
 -- The loop keeps that n is what the calls before place j ask for, and at most the bound.
-use mathlib.Core.Path.{◌≡◌, ap, ◌∙◌}
+use mathlib.Core.Path.{◌≡◌}
 use Prim.Native.Nat.{◌+◌, ◌-◌, ◌≤◌}
-use native.Mathlib.Omega.{arith}
-use borrow.Author.Rules.{rules}
-use borrow.Author.Tests.{le-leb, lt-leb}
 use lib.ListN.{length, drop}
 use Rattle.rules.specs.Calls.{asked}
 use Rattle.calls.specs.MakeCalls.{calls_of}
-use Rattle.calls.proofs.Calling.{calls_at, calls_end}
 use Rattle.calls.proofs.asked_by_all.Given as goal
 
 abbrev pub invariant-loop-j : goal.invariant-loop-j

@@ -3,11 +3,9 @@ use mathlib.Core.Path.{refl}
 use Prim.Native.Nat.{◌-◌}
 use native.Mathlib.Nat.{lt_of_le_of_lt}
 use native.Mathlib.Numerals.{add-one}
-use borrow.Author.Rules.{rules}
 use borrow.Author.Count.{falls}
-use lib.ListN.{length}
-use Rattle.reader.specs.Columns.{columns, Even, closing_of}
-use Rattle.calls.proofs.CallLoop.{Going, going_start, going_ends, going_room, going_inside, going_rows, going_more}
+use Rattle.reader.specs.Columns.{columns}
+use Rattle.calls.proofs.CallLoop.{going_start, going_ends, going_room, going_inside, going_rows, going_more}
 use Rattle.calls.proofs.calls_from.Goals as goal
 
 pub loop-j-init : goal.loop-j-init

@@ -1,13 +1,8 @@
 -- The loop keeps what is gathered so far, and what the calls that are left give behind it.
-use mathlib.Core.Path.{refl}
 use Prim.Native.Nat.{◌-◌}
-use native.Mathlib.Nat.{lt_of_le_of_lt}
-use native.Mathlib.Numerals.{add-one}
-use borrow.Author.Rules.{rules}
-use borrow.Author.Count.{falls}
 use lib.ListN.{length}
 use Rattle.reader.specs.Columns.{columns, Even, closing_of}
-use Rattle.calls.proofs.CallLoop.{Going, going_start, going_ends, going_room, going_inside, going_rows, going_more}
+use Rattle.calls.proofs.CallLoop.{Going}
 use Rattle.calls.proofs.calls_from.Given as goal
 
 abbrev pub invariant-loop-j : goal.invariant-loop-j

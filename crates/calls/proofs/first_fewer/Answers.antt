@@ -1,5 +1,4 @@
 -- By Z so far, and by the test.
-use borrow.Author.Rules.{rules}
 use borrow.Author.Tests.{lt-ltb, le-ltb}
 use Rattle.calls.proofs.first_fewer.Goals as goal
 

@@ -1,7 +1,6 @@
 -- Columns of unequal lengths, and columns shorter than N, are answered before Open; then a run that Open refuses, and one that it opens.
 use mathlib.Core.Path.{sym, ◌∙◌}
 use native.Mathlib.Omega.{arith}
-use borrow.Author.Rules.{rules}
 use borrow.Author.Tests.{not-true, not-false}
 use lib.ListN.{length}
 use Rattle.rules.specs.Calls.{asked}

@@ -1,6 +1,5 @@
 -- The record is row i, or there is none.
 use mathlib.Core.Path.{refl, sym, ap, ◌∙◌}
-use borrow.Author.Rules.{rules}
 use Rattle.streams.specs.Next.{answer_of}
 use Rattle.reader.specs.Columns.{columns}
 use Rattle.calls.proofs.Rows.{no_rows, given_row}

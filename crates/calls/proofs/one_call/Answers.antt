@@ -2,7 +2,6 @@
 use mathlib.Core.Path.{◌≡◌, ap, ◌∙◌}
 use Prim.Native.Nat.{◌+◌, ◌-◌}
 use native.Mathlib.Omega.{arith}
-use borrow.Author.Rules.{rules}
 use Rattle.rules.specs.Calls.{fill, asks}
 use Rattle.reader.specs.Columns.{columns}
 use Rattle.calls.specs.MakeCalls.{call_of}

@@ -1,6 +1,5 @@
 -- By what is told of the date.
 use mathlib.Core.Path.{refl, sym, ap, ◌∙◌}
-use borrow.Author.Rules.{rules}
 use Rattle.volumes.specs.Volume.{date_told}
 use Rattle.chemread.proofs.Calls.{dates_into}
 use Rattle.chemread.proofs.chemstation_date.Goals as goal

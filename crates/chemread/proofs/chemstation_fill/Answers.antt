@@ -1,6 +1,5 @@
 -- No state, or the columns filled from the state and the state after the last record stored back.
 use mathlib.Core.Path.{sym, ◌∙◌}
-use borrow.Author.Rules.{rules}
 use Rattle.chemread.proofs.Calls.{fills_into, fills_nothing}
 use Rattle.chemread.proofs.chemstation_fill.Goals as goal
 

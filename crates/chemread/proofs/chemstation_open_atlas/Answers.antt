@@ -1,5 +1,4 @@
 -- As opened by the reading.
-use borrow.Author.Rules.{rules}
 use Rattle.chemread.proofs.chemstation_open_atlas.Goals as goal
 
 pub returns : goal.returns

@@ -1,7 +1,6 @@
 -- By the case of the total. A signed number is read back from its bits.
 use mir.Syntax.{w64}
 use mathlib.Core.Path.{refl, sym, ap, ◌∙◌}
-use borrow.Author.Rules.{rules}
 use mir.Facts.{to_z-of_z}
 use Rattle.sums.specs.Sums.{total_from}
 use Rattle.sums.specs.declared.Total.TheVariants.{Amount}

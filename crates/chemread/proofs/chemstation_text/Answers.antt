@@ -1,5 +1,4 @@
 -- The answer of Fetch a text, by its case.
-use borrow.Author.Rules.{rules}
 use Rattle.chemread.proofs.Calls.{fetches_into}
 use Rattle.chemread.proofs.chemstation_text.Goals as goal
 

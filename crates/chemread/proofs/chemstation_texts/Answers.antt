@@ -1,5 +1,4 @@
 -- The answer of all texts at once, by its case.
-use borrow.Author.Rules.{rules}
 use Rattle.chemread.proofs.Calls.{texts_into}
 use Rattle.chemread.proofs.chemstation_texts.Goals as goal
 

@@ -1,6 +1,5 @@
 -- By the place.
 use mathlib.Core.Path.{sym, ap, ◌∙◌}
-use borrow.Author.Rules.{rules}
 use Rattle.volumes.specs.Volume.{place_told}
 use Rattle.chemread.specs.Answers.{place_number}
 use Rattle.chemread.proofs.chemstation_window.Goals as goal

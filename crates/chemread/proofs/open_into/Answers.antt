@@ -1,5 +1,4 @@
 -- The description and the state of a header that was opened, or nothing.
-use borrow.Author.Rules.{rules}
 use Rattle.chemread.proofs.Calls.{opens_into}
 use Rattle.chemread.proofs.open_into.Goals as goal
 

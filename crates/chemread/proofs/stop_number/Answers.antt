@@ -1,6 +1,5 @@
 -- By the case.
 use mathlib.Core.Path.{sym, ap, ◌∙◌}
-use borrow.Author.Rules.{rules}
 use Rattle.error.specs.Number.{stop_of, stop_number}
 use Rattle.chemread.proofs.stop_number.Goals as goal
 

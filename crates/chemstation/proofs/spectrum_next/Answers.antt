@@ -1,12 +1,9 @@
 -- By the plain state at the state's place.
-use mathlib.Core.Path.{sym, ap, ◌∙◌, subst}
-use borrow.Author.Rules.{rules}
+use mathlib.Core.Path.{sym, ◌∙◌, subst}
 use types.Run.{OneOf}
 use borrow.Enum.Refused.{opened}
 use denote.Enum.Declared.{tag_of}
-use mathlib.Core.List.{[], ◌∷◌}
-use Rattle.rules.specs.Rule.{map_read}
-use Rattle.atlas.specs.Atlas.{item_by}
+use mathlib.Core.List.{◌∷◌}
 use Rattle.streams.specs.contracts.State.{the_type}
 use Rattle.chemstation.proofs.Spectrum.{plain_answers, others_end}
 use Rattle.chemstation.proofs.spectrum_next.Goals as goal

@@ -1,6 +1,5 @@
 -- 20.0 and 2000.0, by their bit patterns, are the numbers that the definition names.
 use lib.Ieee.{of_int, of_bits}
-use borrow.Author.Rules.{rules}
 use Rattle.dad.proofs.dad_given.Goals as goal
 
 pub returns : goal.returns

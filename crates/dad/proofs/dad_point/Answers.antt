@@ -1,5 +1,4 @@
 -- By what was read of the delta: the point it makes, or why there is none.
-use borrow.Author.Rules.{rules}
 use Rattle.common.specs.Bytes.{le}
 use Rattle.streams.specs.Next.{sum_of}
 use Rattle.dad.specs.Dad.{dad_point}

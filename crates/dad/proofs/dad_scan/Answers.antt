@@ -2,7 +2,6 @@
 use mathlib.Core.Path.{◌≡◌, refl, sym}
 use native.Mathlib.Omega.{arith}
 use lib.Ieee.{binary64, of_int, of_bits}
-use borrow.Author.Rules.{rules}
 use Rattle.floats.specs.Doubles.{double}
 use Rattle.dad.proofs.DadLaws.{dad_type_cut, dad_other, dad_head_cut, dad_none, dad_first}
 use Rattle.dad.proofs.dad_scan.Goals as goal

@@ -1,6 +1,5 @@
 -- A day of the calendar, or none.
 use mathlib.Core.Path.{ap}
-use borrow.Author.Rules.{rules}
 use Rattle.utf8.proofs.Cases.{no, yes}
 use Rattle.dates.specs.declared.Date.TheVariants.{Instant}
 use Rattle.dates.proofs.date_at.Goals as goal

@@ -1,6 +1,5 @@
 -- The values of the form, and the moment that they say.
 use mathlib.Core.Path.{sym, ap, ◌∙◌}
-use borrow.Author.Rules.{rules}
 use Rattle.dates.specs.Dates.{items_of, date_from, date_at, values_of}
 use Rattle.dates.proofs.Ranges.{no_values, its_values, in_ranges, in_span, same_moment}
 use Rattle.dates.proofs.date_by.Goals as goal

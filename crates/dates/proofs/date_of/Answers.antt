@@ -1,6 +1,5 @@
 -- By the one form that its length allows.
 use mathlib.Core.Path.{◌∙◌, ap}
-use borrow.Author.Rules.{rules}
 use Rattle.dates.specs.Dates.{date_by}
 use Rattle.dates.proofs.Forms.{by_one_form}
 use Rattle.dates.proofs.date_of.Goals as goal

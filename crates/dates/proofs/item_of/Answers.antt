@@ -2,7 +2,6 @@
 use mathlib.Core.Path.{◌∙◌}
 use native.Mathlib.Omega.{arith}
 use lib.ListN.{get_or-append}
-use borrow.Author.Rules.{rules}
 use Rattle.items.specs.declared.Item.TheVariants.{Sign}
 use Rattle.dates.specs.Dates.{second_form, zone}
 use Rattle.dates.proofs.item_of.Goals as goal

@@ -4,7 +4,6 @@ use mathlib.Core.Path.{◌≡◌, sym, subst}
 use Prim.Native.Nat.{ℕ, ◌≤◌, ◌<◌}
 use native.Mathlib.Omega.{arith}
 use lib.ListN.{length, get_or}
-use borrow.Author.Rules.{rules}
 use Rattle.dates.specs.Dates.{items_of, moment_of, lows, highs, InRanges}
 use Rattle.dates.specs.declared.Form.{Form}
 use Rattle.dates.proofs.moment_of.Goals as goal

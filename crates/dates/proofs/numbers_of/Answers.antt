@@ -1,12 +1,8 @@
 -- The items are walked one after the other.
-use mathlib.Core.Path.{◌≡◌, refl, sym}
-use Prim.Native.Nat.{◌-◌, ◌<◌}
+use mathlib.Core.Path.{refl, sym}
+use Prim.Native.Nat.{◌<◌}
 use native.Mathlib.Omega.{arith}
-use mathlib.Core.Logic.{⊎_elim}
-use lib.ListN.{length}
-use borrow.Author.Rules.{rules}
-use Rattle.dates.proofs.Walk.{Walked, begun, not_found, on_passed, on_value, ended, most_items}
-use Rattle.dates.specs.Dates.{items_of}
+use Rattle.dates.proofs.Walk.{begun, not_found, on_passed, on_value, ended, most_items}
 use Rattle.dates.proofs.numbers_of.Goals as goal
 use Rattle.dates.proofs.numbers_of.Goals.{in-Passed, in-Value}
 

@@ -1,6 +1,5 @@
 -- 69 is the first year of its century.
 use borrow.Author.Tests.{le-leb, lt-leb}
-use borrow.Author.Rules.{rules}
 use Rattle.dates.proofs.year_of.Goals as goal
 
 pub returns-then-y-le68 : goal.returns-then-y-le68

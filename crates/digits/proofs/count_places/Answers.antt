@@ -2,8 +2,7 @@
 use mathlib.Core.Path.{sym}
 use native.Mathlib.Nat.{zero-add}
 use native.Mathlib.Omega.{arith}
-use borrow.Author.Rules.{rules}
-use Rattle.digits.proofs.Digits.{Counting, counting_turn, one_place}
+use Rattle.digits.proofs.Digits.{counting_turn, one_place}
 use Rattle.digits.proofs.count_places.Goals as goal
 
 pub loop-rest-init : goal.loop-rest-init

@@ -1,9 +1,5 @@
 -- Each turn takes a digit off.
-use mathlib.Core.Path.{sym}
-use native.Mathlib.Nat.{zero-add}
-use native.Mathlib.Omega.{arith}
-use borrow.Author.Rules.{rules}
-use Rattle.digits.proofs.Digits.{Counting, counting_turn, one_place}
+use Rattle.digits.proofs.Digits.{Counting}
 use Rattle.digits.proofs.count_places.Given as goal
 
 abbrev pub invariant-loop-rest : goal.invariant-loop-rest

@@ -1,5 +1,4 @@
 -- The sum stands for the test.
-use borrow.Author.Rules.{rules}
 use Rattle.digits.proofs.Digits.{no_branch}
 use Rattle.digits.proofs.digit.Goals as goal
 

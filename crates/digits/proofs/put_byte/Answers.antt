@@ -1,5 +1,4 @@
 -- One byte is stored.
-use borrow.Author.Rules.{rules}
 use Rattle.digits.proofs.Puts.{put_one}
 use Rattle.digits.proofs.put_byte.Goals as goal
 

@@ -2,8 +2,7 @@
 use mathlib.Core.Path.{refl}
 use native.Mathlib.Omega.{arith}
 use native.Mathlib.Nat.{mod-lt}
-use borrow.Author.Rules.{rules}
-use Rattle.digits.proofs.Digits.{Digiting, digiting_start, digiting_turn, digiting_done}
+use Rattle.digits.proofs.Digits.{digiting_start, digiting_turn, digiting_done}
 use Rattle.digits.proofs.put_digits.Goals as goal
 
 pub loop-i-init : goal.loop-i-init

@@ -1,9 +1,5 @@
 -- From the last digit to the first.
-use mathlib.Core.Path.{refl}
-use native.Mathlib.Omega.{arith}
-use native.Mathlib.Nat.{mod-lt}
-use borrow.Author.Rules.{rules}
-use Rattle.digits.proofs.Digits.{Digiting, digiting_start, digiting_turn, digiting_done}
+use Rattle.digits.proofs.Digits.{Digiting}
 use Rattle.digits.proofs.put_digits.Given as goal
 
 abbrev pub invariant-loop-i : goal.invariant-loop-i

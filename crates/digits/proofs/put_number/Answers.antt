@@ -1,7 +1,6 @@
 -- The digits, and what ends the field.
 use mathlib.Core.Path.{ap}
 use native.Mathlib.Omega.{arith}
-use borrow.Author.Rules.{rules}
 use Rattle.digits.specs.Numbers.{decimal, digits, field}
 use Rattle.digits.proofs.Puts.{put_as, put_then}
 use Rattle.digits.proofs.put_number.Goals as goal

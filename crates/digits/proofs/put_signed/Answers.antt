@@ -1,9 +1,8 @@
 -- The size, behind a sign where it is due.
 use mathlib.Core.Path.{◌≡◌, ap, ◌∙◌}
 use mathlib.Core.Bool.{true, false}
-use mathlib.Core.List.{[], ◌∷◌, ◌++◌}
+use mathlib.Core.List.{◌∷◌, ◌++◌}
 use native.Mathlib.Omega.{arith}
-use borrow.Author.Rules.{rules}
 use lib.IntN.{pos, nat_abs}
 use lib.Signed.{le_z}
 use mir.Facts.{to_z-of_z}

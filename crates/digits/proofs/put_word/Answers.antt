@@ -1,7 +1,6 @@
 -- A byte at a time.
 use native.Mathlib.Omega.{arith}
-use borrow.Author.Rules.{rules}
-use Rattle.digits.proofs.Words.{Putting, putting_start, putting_turn, putting_done}
+use Rattle.digits.proofs.Words.{putting_start, putting_turn, putting_done}
 use Rattle.digits.proofs.put_word.Goals as goal
 
 pub loop-left-init : goal.loop-left-init

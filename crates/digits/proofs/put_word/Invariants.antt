@@ -1,7 +1,5 @@
 -- A byte at a time.
-use native.Mathlib.Omega.{arith}
-use borrow.Author.Rules.{rules}
-use Rattle.digits.proofs.Words.{Putting, putting_start, putting_turn, putting_done}
+use Rattle.digits.proofs.Words.{Putting}
 use Rattle.digits.proofs.put_word.Given as goal
 
 abbrev pub invariant-loop-left : goal.invariant-loop-left

@@ -1,6 +1,5 @@
 -- Both say a count, or that there is no room.
 use mathlib.Core.Path.{sym, ap}
-use borrow.Author.Rules.{rules}
 use Rattle.fetch.proofs.Fetches.{outcome_in, answers_written}
 use Rattle.fetch.proofs.answer_of.Goals as goal
 

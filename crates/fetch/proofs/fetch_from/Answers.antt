@@ -1,6 +1,5 @@
 -- The bytes of the text are copied, or decoded.
 use mathlib.Core.Path.{ap, ◌∙◌, subst}
-use borrow.Author.Rules.{rules}
 use Rattle.utf16.specs.Utf16.{reported}
 use Rattle.written.specs.Written.{Puts}
 use Rattle.fetch.specs.Fetch.{outcome_of, passed_on}

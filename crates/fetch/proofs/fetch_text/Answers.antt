@@ -2,7 +2,6 @@
 use mathlib.Core.Path.{refl, sym, ap, ◌∙◌}
 use native.Mathlib.Omega.{arith}
 use lib.Seq.{length-take-le}
-use borrow.Author.Rules.{rules}
 use Rattle.rules.specs.Rule.{map_read}
 use Rattle.utf8.proofs.Cases.{yes, no, least, most}
 use Rattle.metadata.proofs.HeaderReads.{read_stopped, never_finished, read_opened, fits}

@@ -1,6 +1,5 @@
 -- No header is 'finished'.
 use mathlib.Core.Path.{sym, ap}
-use borrow.Author.Rules.{rules}
 use Rattle.error.specs.Number.{stop_of}
 use Rattle.fetch.specs.Fetch.{number_of_stop}
 use Rattle.fetch.proofs.refusal_of.Goals as goal

@@ -4,7 +4,6 @@ use Prim.Native.Nat.{ℕ}
 use native.Mathlib.Nat.{add-sub_cancel_left}
 use native.Mathlib.Omega.{arith}
 use lib.ListN.{get_or}
-use borrow.Author.Rules.{rules}
 use Rattle.common.specs.Bytes.{part}
 use Rattle.fetch.proofs.Texts.{text_inside, new_text, new_units, old_text}
 use Rattle.fetch.proofs.text_bytes.Goals as goal

@@ -1,5 +1,4 @@
 -- The record and the state are what the definition makes of the value.
-use borrow.Author.Rules.{rules}
 use Rattle.fid.proofs.fid_given.Goals as goal
 
 pub returns : goal.returns

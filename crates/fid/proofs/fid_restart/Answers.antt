@@ -1,7 +1,6 @@
 -- 65534.0 and 0.0, by their bit patterns, are the numbers that the definition names.
 use lib.Ieee.{of_int, of_bits}
 use mir.Facts.{to_z-of_z}
-use borrow.Author.Rules.{rules}
 use Rattle.fid.proofs.fid_restart.Goals as goal
 
 pub returns : goal.returns

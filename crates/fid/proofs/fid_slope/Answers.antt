@@ -1,6 +1,5 @@
 -- The delta's double is added to the slope, and the slope to the value.
 use mir.Facts.{to_z-of_z}
-use borrow.Author.Rules.{rules}
 use Rattle.fid.proofs.fid_slope.Goals as goal
 
 pub returns : goal.returns

@@ -1,5 +1,4 @@
 -- The theorem, from the two that are cited.
-use borrow.Author.Rules.{rules}
 use Rattle.runlog.specs.Log.{refused_run}
 use Rattle.foot.proofs.Feet.{exact, sum, foot, array, number}
 use Rattle.foot.proofs.Printed.{lines, printed, within}

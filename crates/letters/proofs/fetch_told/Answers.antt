@@ -1,6 +1,5 @@
 -- The theorem, of what the call gave.
 use native.Mathlib.Omega.{arith}
-use borrow.Author.Rules.{rules}
 use Rattle.common.proofs.Sizes.{are_bytes}
 use Rattle.letters.specs.Letters.{Given}
 use Rattle.letters.proofs.Fetched.{tells}

@@ -1,5 +1,4 @@
 -- The theorem, of what the call gave.
-use borrow.Author.Rules.{rules}
 use Rattle.letters.specs.Letters.{GivenAll}
 use Rattle.letters.proofs.Fetched.{tell_all}
 use Rattle.letters.proofs.texts_told.Goals as goal

@@ -1,6 +1,5 @@
 -- The number and the words behind it.
 use native.Mathlib.Omega.{arith}
-use borrow.Author.Rules.{rules}
 use Rattle.digits.proofs.Puts.{put_then}
 use Rattle.lines.proofs.put_behind.Goals as goal
 

@@ -1,6 +1,5 @@
 -- The words before it, and what is left.
 use native.Mathlib.Omega.{arith}
-use borrow.Author.Rules.{rules}
 use Rattle.digits.proofs.Puts.{put_then}
 use Rattle.lines.specs.Left.{left_line}
 use Rattle.lines.proofs.put_left.Goals as goal

@@ -1,5 +1,4 @@
 -- Two bytes.
-use borrow.Author.Rules.{rules}
 use Rattle.digits.proofs.Puts.{put_then}
 use Rattle.lines.proofs.put_letter.Goals as goal
 

@@ -1,9 +1,7 @@
 -- The line ends, or goes on.
 use native.Mathlib.Omega.{arith}
-use borrow.Author.Rules.{rules}
-use mathlib.Core.Path.{refl, sym}
 use borrow.Author.Tests.{eq-eqb, ne_eqb}
-use Rattle.digits.proofs.Puts.{put_as, put_then}
+use Rattle.digits.proofs.Puts.{put_then}
 use Rattle.lines.proofs.put_more.Goals as goal
 
 pub returns-then-behind-eq0 : goal.returns-then-behind-eq0

@@ -1,6 +1,5 @@
 -- Those behind the end alone, or those of the last scan first.
 use native.Mathlib.Omega.{arith}
-use borrow.Author.Rules.{rules}
 use borrow.Author.Tests.{eq-eqb, ne_eqb}
 use Rattle.digits.proofs.Puts.{put_then}
 use Rattle.lines.proofs.put_scan.Goals as goal

@@ -1,15 +1,8 @@
 -- Byte by byte.
-use mathlib.Core.Path.{◌≡◌, sym, ap, ◌∙◌}
-use mathlib.Core.List.{[], ◌∷◌, ◌++◌}
+use mathlib.Core.Path.{◌≡◌}
 use Prim.Native.Nat.{◌+◌, ◌-◌, ◌≤◌}
-use native.Mathlib.Nat.{add-zero}
-use native.Mathlib.Numerals.{add-one}
-use native.Mathlib.Omega.{arith}
-use borrow.Author.Rules.{rules}
-use lib.ListN.{length, take, get_or}
-use lib.Seq.{take-suc, take_all}
+use lib.ListN.{length, take}
 use Rattle.digits.specs.Put.{Put}
-use Rattle.digits.proofs.Puts.{put_as, put_then, put_none}
 use Rattle.lines.proofs.put_text.Given as goal
 
 abbrev pub invariant-loop-i : goal.invariant-loop-i

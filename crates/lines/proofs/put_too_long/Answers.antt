@@ -1,6 +1,5 @@
 -- The words alone.
 use native.Mathlib.Omega.{arith}
-use borrow.Author.Rules.{rules}
 use Rattle.lines.specs.Left.{too_long_line}
 use Rattle.lines.proofs.put_too_long.Goals as goal
 

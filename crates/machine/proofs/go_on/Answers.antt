@@ -3,7 +3,6 @@ use Rattle.places.proofs.Steps.{go_as, go_refused}
 use Prim.Native.Nat.{◌-◌}
 use native.Mathlib.Omega.{arith}
 use lib.ListN.{drop, length-take}
-use borrow.Author.Rules.{rules}
 use Rattle.machine.proofs.go_on.Goals as goal
 
 pub end-requires : goal.end-requires

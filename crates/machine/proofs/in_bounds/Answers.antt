@@ -1,7 +1,6 @@
 -- Test by test.
 use mathlib.Core.Path.{refl}
 use borrow.Author.Tests.{le-leb, lt-leb}
-use borrow.Author.Rules.{rules}
 use Rattle.machine.proofs.in_bounds.Goals as goal
 
 pub returns-then-buf-ge1 : goal.returns-then-buf-ge1

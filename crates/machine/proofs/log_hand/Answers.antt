@@ -2,7 +2,6 @@
 use native.Mathlib.Omega.{arith}
 use Rattle.places.specs.Machine.{logs_records}
 use Rattle.places.proofs.Steps.{closing_as, too_many, logged_on, behind_inside, taken_inside}
-use borrow.Author.Rules.{rules}
 use Rattle.machine.proofs.log_hand.Goals as goal
 
 pub overflow_add-left : goal.overflow_add-left

@@ -5,7 +5,6 @@ use Rattle.rules.proofs.Laws.{taken_within}
 use Rattle.places.specs.Machine.{totalled}
 use Rattle.places.proofs.Steps.{put_at_lem, hand_long}
 use Rattle.machine.proofs.Opens.{open_waits, open_finished, open_refused, open_reads, open_runs}
-use borrow.Author.Rules.{rules}
 use Rattle.machine.proofs.open.Goals as goal
 
 pub overflow_add-from : goal.overflow_add-from

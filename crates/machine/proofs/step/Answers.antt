@@ -4,7 +4,6 @@ use native.Mathlib.Omega.{arith}
 use borrow.Author.Tests.{lt-ltb, not-true, not-false}
 use Rattle.places.specs.Machine.{step_of}
 use Rattle.places.proofs.Steps.{then_step, else_step, phase_as, at_place, fits_inside}
-use borrow.Author.Rules.{rules}
 use Rattle.machine.proofs.step.Goals as goal
 
 pub returns-then-not-in_bounds : goal.returns-then-not-in_bounds

@@ -2,7 +2,6 @@
 use mathlib.Core.Path.{refl, ap}
 use native.Mathlib.Omega.{arith}
 use lib.Ieee.{of_int, of_bits}
-use borrow.Author.Rules.{rules}
 use Rattle.layouts.specs.Table.{offsets, multipliers, minima}
 use Rattle.layouts.specs.Layouts.{editions, layout_of}
 use Rattle.metadata.specs.Metadata.{described_by}

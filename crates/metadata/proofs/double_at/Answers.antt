@@ -1,7 +1,6 @@
 -- By whether a double is stored.
 use mathlib.Core.Path.{refl, ap, ◌∙◌}
 use lib.Ieee.{binary64, of_bits}
-use borrow.Author.Rules.{rules}
 use borrow.Author.Tests.{eq-eqb, ne_eqb}
 use Rattle.metadata.proofs.double_at.Goals as goal
 

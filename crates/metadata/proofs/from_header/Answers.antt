@@ -1,7 +1,6 @@
 -- The edition's minimum first, then the texts.
 use mathlib.Core.Path.{sym, ap, subst}
 use native.Mathlib.Omega.{arith}
-use borrow.Author.Rules.{rules}
 use Rattle.layouts.specs.Layouts.{layout_of}
 use Rattle.metadata.specs.Remaining.{OpensWhole}
 use Rattle.metadata.proofs.Opens.{whole_refused, edition_unknown, below_minimum, past_minimum}

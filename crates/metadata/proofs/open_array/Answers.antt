@@ -1,6 +1,5 @@
 -- The size first, then the count.
 use mathlib.Core.Path.{sym, ◌∙◌}
-use borrow.Author.Rules.{rules}
 use Rattle.rules.specs.Rule.{◌>>=◌}
 use Rattle.metadata.proofs.Opens.{whole_refused, whole_opened, array_small, array_counted}
 use Rattle.metadata.proofs.open_array.Goals as goal

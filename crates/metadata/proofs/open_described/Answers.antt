@@ -1,7 +1,6 @@
 -- By whether the kind is the array.
 use mathlib.Core.Path.{refl}
 use lib.Ieee.{of_int, of_bits}
-use borrow.Author.Rules.{rules}
 use borrow.Author.Tests.{ne_eqb}
 use Rattle.rules.specs.Rule.{◌>>=◌}
 use Rattle.metadata.proofs.Opens.{whole_opened}

@@ -3,7 +3,6 @@ use mathlib.Core.Path.{sym, ap, ◌∙◌, subst}
 use native.Mathlib.Nat.{sub-zero}
 use lib.ListN.{take}
 use lib.Seq.{length-take-le}
-use borrow.Author.Rules.{rules}
 use Rattle.agilent.specs.Header.{size_read}
 use Rattle.agilent.proofs.HeaderLaws.{header_stops, header_gives}
 use Rattle.metadata.specs.Metadata.{Opens}

@@ -1,5 +1,4 @@
 -- By the tests on the kind.
-use borrow.Author.Rules.{rules}
 use borrow.Author.Tests.{eq-eqb, ne_eqb}
 use Rattle.metadata.proofs.scans_at.Goals as goal
 

@@ -1,7 +1,6 @@
 -- A field lies within its edition's minimum.
 use mathlib.Core.Path.{ap, ◌∙◌}
 use native.Mathlib.Omega.{arith}
-use borrow.Author.Rules.{rules}
 use Rattle.pascal.specs.Texts.{reach, text_rule}
 use Rattle.layouts.proofs.Tables.{field_lies}
 use Rattle.metadata.proofs.text_in.Goals as goal

@@ -1,6 +1,5 @@
 -- 60.0, by its bit pattern, is the double of 60.
 use lib.Ieee.{of_int, of_bits}
-use borrow.Author.Rules.{rules}
 use Rattle.metadata.proofs.time_step.Goals as goal
 
 pub returns : goal.returns

@@ -1,6 +1,5 @@
 -- A kind that is refused, or what Open answers with its state under the atlas reading.
 use mathlib.Core.Path.{refl, sym, ap, ◌∙◌}
-use borrow.Author.Rules.{rules}
 use borrow.Author.Tests.{not-true, not-false}
 use Rattle.modes.proofs.ModeLaws.{no_kind, no_atlas, refused_by, opened_by_lem}
 use Rattle.opening.specs.declared.Opening.TheVariants.{Run}

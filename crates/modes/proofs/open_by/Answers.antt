@@ -1,6 +1,5 @@
 -- By the reading.
 use mathlib.Core.Path.{sym, subst}
-use borrow.Author.Rules.{rules}
 use Rattle.modes.specs.Modes.{OpensBy}
 use Rattle.modes.proofs.ModeLaws.{plainly}
 use Rattle.modes.proofs.open_by.Goals as goal

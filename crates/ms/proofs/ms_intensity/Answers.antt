@@ -1,7 +1,6 @@
 -- 14 bits shifted by at most 9 are within 32.
 use mathlib.Core.Path.{ap, ◌∙◌}
 use native.Mathlib.Omega.{arith}
-use borrow.Author.Rules.{rules}
 use Rattle.floats.specs.Doubles.{double}
 use Rattle.ms.proofs.MsLaws.{shifted}
 use Rattle.ms.proofs.ms_intensity.Goals as goal

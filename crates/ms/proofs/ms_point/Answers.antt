@@ -1,7 +1,6 @@
 -- Each answer is what the rule of a point reads of the bytes that are there.
 use mathlib.Core.Path.{sym, ap, ◌∙◌}
 use native.Mathlib.Omega.{arith}
-use borrow.Author.Rules.{rules}
 use Rattle.rules.specs.Rule.{stops, map_read}
 use Rattle.streams.specs.Next.{stepped}
 use Rattle.ms.proofs.MsLaws.{point_cut, point_inner, point_last, footer_cut}

@@ -1,7 +1,6 @@
 -- The head of a scan with points.
 use mathlib.Core.Path.{sym, ap, ◌∙◌}
 use native.Mathlib.Omega.{arith}
-use borrow.Author.Rules.{rules}
 use Rattle.rules.specs.Rule.{stops, map_read}
 use Rattle.streams.specs.Next.{stepped}
 use Rattle.ms.proofs.MsLaws.{filled_cut, filled_point}

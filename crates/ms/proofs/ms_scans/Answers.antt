@@ -1,11 +1,8 @@
 -- What is read from the start is read from the next scan on, with so many scans left: an empty one changes nothing.
-use mathlib.Core.Path.{◌≡◌, refl, sym, ap, ◌∙◌}
-use Prim.Native.Nat.{◌-◌, ◌≤◌}
+use mathlib.Core.Path.{sym, ap, ◌∙◌}
+use Prim.Native.Nat.{◌-◌}
 use native.Mathlib.Omega.{arith}
-use lib.ListN.{length}
-use borrow.Author.Rules.{rules}
-use Rattle.rules.specs.Rule.{stops, read_at, map_read}
-use Rattle.ms.specs.Ms.{ms_scans}
+use Rattle.rules.specs.Rule.{stops, map_read}
 use Rattle.streams.specs.Next.{stepped}
 use Rattle.ms.proofs.MsLaws.{none_due, count_cut, count_refused, empty_cut, empty_passed}
 use Rattle.ms.proofs.ms_scans.Goals as goal

@@ -1,7 +1,6 @@
 -- Each answer is what the rule of MWD reads of the bytes that are there.
 use mathlib.Core.Path.{sym}
 use native.Mathlib.Omega.{arith}
-use borrow.Author.Rules.{rules}
 use Rattle.mwd.proofs.MwdLaws.{mwd_none, mwd_within, mwd_cut, mwd_ends, mwd_group}
 use Rattle.mwd.proofs.mwd_next.Goals as goal
 

@@ -1,6 +1,5 @@
 -- 0.0, by its bit pattern, is the double of 0.
 use lib.Ieee.{of_int, of_bits}
-use borrow.Author.Rules.{rules}
 use Rattle.opening.proofs.array_state.Goals as goal
 
 pub returns : goal.returns

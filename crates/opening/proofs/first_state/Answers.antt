@@ -1,7 +1,6 @@
 -- By the kind.
 use mathlib.Core.Path.{◌≡◌, sym, ap, ◌∙◌}
 use native.Mathlib.Omega.{arith}
-use borrow.Author.Rules.{rules}
 use Rattle.opening.specs.Opening.{begins}
 use Rattle.opening.proofs.first_state.Goals as goal
 

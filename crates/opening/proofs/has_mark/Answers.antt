@@ -1,10 +1,8 @@
 -- The loop keeps that what was compared was the same.
 use mathlib.Core.Path.{refl, sym}
-use Prim.Native.Nat.{◌-◌, ◌≤◌}
+use Prim.Native.Nat.{◌-◌}
 use native.Mathlib.Omega.{arith}
-use borrow.Author.Rules.{rules}
-use lib.ListN.{length}
-use Rattle.opening.proofs.Marks.{Compared, compared_more, compared_not, compared_all}
+use Rattle.opening.proofs.Marks.{compared_more, compared_not, compared_all}
 use Rattle.opening.proofs.has_mark.Goals as goal
 
 pub loop-i-init : goal.loop-i-init

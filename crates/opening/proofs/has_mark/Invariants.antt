@@ -1,10 +1,7 @@
 -- The loop keeps that what was compared was the same.
-use mathlib.Core.Path.{refl, sym}
 use Prim.Native.Nat.{◌-◌, ◌≤◌}
-use native.Mathlib.Omega.{arith}
-use borrow.Author.Rules.{rules}
 use lib.ListN.{length}
-use Rattle.opening.proofs.Marks.{Compared, compared_more, compared_not, compared_all}
+use Rattle.opening.proofs.Marks.{Compared}
 use Rattle.opening.proofs.has_mark.Given as goal
 
 abbrev pub invariant-loop-i : goal.invariant-loop-i

@@ -1,7 +1,6 @@
 -- The header's answer, and for a header that was opened the state that its kind begins with.
 use mathlib.Core.Path.{subst}
 use native.Mathlib.Nat.{sub-zero}
-use borrow.Author.Rules.{rules}
 use Rattle.metadata.specs.Metadata.{Blank}
 use Rattle.rules.proofs.Laws.{read_map}
 use Rattle.metadata.proofs.HeaderReads.{read_stopped, read_opened, fits}

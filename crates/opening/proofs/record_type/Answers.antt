@@ -1,5 +1,4 @@
 -- By the two marks.
-use borrow.Author.Rules.{rules}
 use mathlib.Core.Path.{sym, ◌∙◌}
 use Rattle.opening.proofs.record_type.Goals as goal
 

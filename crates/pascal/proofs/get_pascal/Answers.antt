@@ -2,7 +2,6 @@
 use mathlib.Core.Path.{sym, ap, ◌∙◌}
 use Prim.Native.Nat.{◌+◌}
 use native.Mathlib.Omega.{arith}
-use borrow.Author.Rules.{rules}
 use Rattle.pascal.specs.Texts.{trimmed_from}
 use Rattle.pascal.proofs.TextLaws.{pascal_long, pascal_trims, trims_within}
 use Rattle.pascal.proofs.get_pascal.Goals as goal

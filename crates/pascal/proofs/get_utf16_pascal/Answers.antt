@@ -1,7 +1,6 @@
 -- The length byte counts units of two bytes.
 use mathlib.Core.Path.{ap, ◌∙◌}
 use Prim.Native.Nat.{◌+◌, ◌*◌}
-use borrow.Author.Rules.{rules}
 use Rattle.rules.specs.Rule.{gives}
 use Rattle.pascal.specs.Texts.{place_at}
 use Rattle.pascal.proofs.get_utf16_pascal.Goals as goal

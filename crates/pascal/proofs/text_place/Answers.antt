@@ -1,7 +1,6 @@
 -- By the kind of the field.
 use mathlib.Core.Path.{sym, ap, ◌∙◌}
 use native.Mathlib.Omega.{arith}
-use borrow.Author.Rules.{rules}
 use Rattle.pascal.specs.Texts.{reach, text_rule}
 use Rattle.pascal.proofs.text_place.Goals as goal
 

@@ -1,7 +1,6 @@
 -- Once all is written, by the phase.
 use mathlib.Core.Path.{refl}
 use Rattle.places.proofs.Steps.{some, none, then_step, else_step, after_as}
-use borrow.Author.Rules.{rules}
 use Rattle.places.proofs.after.Goals as goal
 
 pub returns-then-p-gt0 : goal.returns-then-p-gt0

@@ -3,7 +3,6 @@ use mathlib.Core.Path.{sym, ap, ◌∙◌}
 use Prim.Native.Nat.{◌+◌}
 use Rattle.places.specs.declared.Phase.TheVariants.{Header}
 use Rattle.places.specs.Machine.{grown, came}
-use borrow.Author.Rules.{rules}
 use Rattle.places.proofs.arrive.Goals as goal
 
 pub returns-in-Digit : goal.returns-in-Digit

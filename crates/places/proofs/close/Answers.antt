@@ -3,7 +3,6 @@ use mathlib.Core.Path.{refl, ap₂}
 use Rattle.digits.proofs.Puts.{put_then}
 use Rattle.places.specs.declared.Ask.TheVariants.{Write}
 use Rattle.places.proofs.Steps.{put_at_lem}
-use borrow.Author.Rules.{rules}
 use Rattle.places.proofs.close.Goals as goal
 
 pub returns : goal.returns

@@ -1,15 +1,14 @@
 -- One length after the other.
 use mathlib.Core.Path.{◌≡◌, sym, ap, ◌∙◌}
 use mathlib.Core.Bool.{false}
-use Prim.Native.Nat.{◌+◌, ◌-◌, ◌≤◌}
+use Prim.Native.Nat.{◌+◌, ◌-◌}
 use native.Mathlib.Nat.{sub-zero}
 use native.Mathlib.Omega.{arith}
 use lib.ListN.{length, take}
 use Rattle.rules.specs.Rule.{read}
 use Rattle.chemstation.specs.Next.{rule}
-use Rattle.places.specs.Machine.{is_finished, finished_from, closing_bytes}
+use Rattle.places.specs.Machine.{is_finished, finished_from}
 use Rattle.places.proofs.Steps.{finished_here, finished_later}
-use borrow.Author.Rules.{rules}
 use Rattle.places.proofs.closing_bytes.Goals as goal
 
 pub loop-n-init : goal.loop-n-init

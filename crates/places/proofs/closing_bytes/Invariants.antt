@@ -1,15 +1,8 @@
 -- One length after the other.
-use mathlib.Core.Path.{◌≡◌, sym, ap, ◌∙◌}
-use mathlib.Core.Bool.{false}
-use Prim.Native.Nat.{◌+◌, ◌-◌, ◌≤◌}
-use native.Mathlib.Nat.{sub-zero}
-use native.Mathlib.Omega.{arith}
-use lib.ListN.{length, take}
-use Rattle.rules.specs.Rule.{read}
-use Rattle.chemstation.specs.Next.{rule}
-use Rattle.places.specs.Machine.{is_finished, finished_from, closing_bytes}
-use Rattle.places.proofs.Steps.{finished_here, finished_later}
-use borrow.Author.Rules.{rules}
+use mathlib.Core.Path.{◌≡◌}
+use Prim.Native.Nat.{◌-◌, ◌≤◌}
+use lib.ListN.{length}
+use Rattle.places.specs.Machine.{finished_from, closing_bytes}
 use Rattle.places.proofs.closing_bytes.Given as goal
 
 abbrev pub invariant-loop-n : goal.invariant-loop-n

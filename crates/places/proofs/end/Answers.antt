@@ -2,7 +2,6 @@
 use mathlib.Core.Path.{ap}
 use native.Mathlib.Omega.{arith}
 use Rattle.places.proofs.Steps.{step_as, ends_as}
-use borrow.Author.Rules.{rules}
 use Rattle.places.proofs.end.Goals as goal
 
 pub overflow_add-p : goal.overflow_add-p

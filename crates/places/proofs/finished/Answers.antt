@@ -1,6 +1,5 @@
 -- By what closed the record loop.
 use mathlib.Core.Path.{sym, ap, ◌∙◌}
-use borrow.Author.Rules.{rules}
 use Rattle.rules.specs.Calls.{stopped}
 use Rattle.error.specs.Number.{stop_of}
 use Rattle.reader.specs.Columns.{closing_of}

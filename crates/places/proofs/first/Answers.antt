@@ -2,7 +2,6 @@
 use mathlib.Core.Path.{refl, ap}
 use Rattle.places.specs.declared.Ask.TheVariants.{Read}
 use Rattle.places.proofs.Steps.{then_step, else_step}
-use borrow.Author.Rules.{rules}
 use Rattle.places.proofs.first.Goals as goal
 
 pub returns-then-p : goal.returns-then-p

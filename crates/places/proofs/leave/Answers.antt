@@ -1,12 +1,11 @@
 -- Bytes stand behind the last scan, or the input has ended, or more are passed over.
-use mathlib.Core.Path.{◌≡◌, refl, sym, ap, ap₂, ◌∙◌}
+use mathlib.Core.Path.{refl, ap, ap₂, ◌∙◌}
 use Prim.Native.Nat.{◌-◌}
 use borrow.Author.Tests.{lt-ltb, le-ltb}
 use Rattle.places.specs.declared.Ask.TheVariants.{Read}
 use Rattle.places.specs.declared.Phase.TheVariants.{Ended}
 use Rattle.places.specs.Machine.{moved_to, tells_left}
 use Rattle.places.proofs.Steps.{or_so, or_then, then_step, else_step, step_as}
-use borrow.Author.Rules.{rules}
 use Rattle.places.proofs.leave.Goals as goal
 
 pub returns-then-due-hand : goal.returns-then-due-hand

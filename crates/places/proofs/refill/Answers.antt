@@ -6,7 +6,6 @@ use borrow.Author.Tests.{eq-eqb, ne_eqb}
 use lib.ListN.{take, drop}
 use Rattle.places.specs.declared.Ask.TheVariants.{Read}
 use Rattle.places.proofs.Steps.{then_step, else_step}
-use borrow.Author.Rules.{rules}
 use Rattle.places.proofs.refill.Goals as goal
 
 pub returns-then-n-buf : goal.returns-then-n-buf

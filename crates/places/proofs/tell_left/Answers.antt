@@ -1,7 +1,6 @@
 -- If anything is left.
 use mathlib.Core.Path.{refl}
 use Rattle.places.proofs.Steps.{some, none, and_not, and_then, then_step, else_step}
-use borrow.Author.Rules.{rules}
 use Rattle.places.proofs.tell_left.Goals as goal
 
 pub returns-then-scan-gt0 : goal.returns-then-scan-gt0

@@ -3,7 +3,6 @@ use mathlib.Core.Path.{refl, ap₂, ◌∙◌}
 use native.Mathlib.Nat.{zero-add}
 use Rattle.places.specs.declared.Ask.TheVariants.{Tell}
 use Rattle.places.proofs.Steps.{put_at_lem}
-use borrow.Author.Rules.{rules}
 use Rattle.places.proofs.tell_too_long.Goals as goal
 
 pub returns : goal.returns

@@ -6,7 +6,6 @@ use borrow.Author.Tests.{eq-eqb, ne_eqb, lt-ltb, le-ltb}
 use lib.ListN.{length}
 use Rattle.places.specs.Machine.{most, took_of}
 use Rattle.places.proofs.Steps.{then_place, else_place}
-use borrow.Author.Rules.{rules}
 use Rattle.places.proofs.took.Goals as goal
 
 pub returns-then-k-eq0 : goal.returns-then-k-eq0

@@ -1,6 +1,5 @@
 -- All was written, or nothing follows.
 use mathlib.Core.Path.{refl}
-use borrow.Author.Rules.{rules}
 use Rattle.places.proofs.wrote.Goals as goal
 
 pub returns-then-ok : goal.returns-then-ok

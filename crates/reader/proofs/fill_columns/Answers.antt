@@ -1,6 +1,5 @@
 -- Unequal lengths are refused before anything is written; equal ones are filled.
 use mathlib.Core.Path.{sym, ◌∙◌}
-use borrow.Author.Rules.{rules}
 use borrow.Author.Tests.{not-true, not-false}
 use Rattle.reader.proofs.fill_columns.Goals as goal
 

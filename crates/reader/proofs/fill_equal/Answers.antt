@@ -2,13 +2,12 @@
 use mathlib.Core.Path.{refl}
 use Prim.Native.Nat.{◌-◌}
 use native.Mathlib.Omega.{arith}
-use borrow.Author.Rules.{rules}
 use lib.ListN.{length, drop, length-drop}
 use Rattle.rules.proofs.Laws.{taken_within}
 use Rattle.chemstation.specs.Next.{rule}
-use Rattle.reader.specs.Columns.{columns, Even}
+use Rattle.reader.specs.Columns.{columns}
 use Rattle.chemstation.proofs.Answers.{answered}
-use Rattle.reader.proofs.ColumnLaws.{even_if, Going, going_start, going_more, going_stops, going_full}
+use Rattle.reader.proofs.ColumnLaws.{even_if, going_start, going_more, going_stops, going_full}
 use Rattle.reader.proofs.fill_equal.Goals as goal
 
 pub loop-i-init : goal.loop-i-init

@@ -1,14 +1,8 @@
 -- The loop keeps that so many records are read and stand in the columns; it ends where the columns are full or the rule stops.
-use mathlib.Core.Path.{refl}
 use Prim.Native.Nat.{◌-◌}
-use native.Mathlib.Omega.{arith}
-use borrow.Author.Rules.{rules}
-use lib.ListN.{length, drop, length-drop}
-use Rattle.rules.proofs.Laws.{taken_within}
-use Rattle.chemstation.specs.Next.{rule}
+use lib.ListN.{length}
 use Rattle.reader.specs.Columns.{columns, Even}
-use Rattle.chemstation.proofs.Answers.{answered}
-use Rattle.reader.proofs.ColumnLaws.{even_if, Going, going_start, going_more, going_stops, going_full}
+use Rattle.reader.proofs.ColumnLaws.{Going}
 use Rattle.reader.proofs.fill_equal.Given as goal
 
 abbrev pub invariant-loop-i : goal.invariant-loop-i

@@ -1,6 +1,5 @@
 -- By the record's case.
 use mathlib.Core.Path.{sym, ap}
-use borrow.Author.Rules.{rules}
 use Rattle.reader.specs.Columns.{row_of}
 use Rattle.reader.proofs.row_of.Goals as goal
 

@@ -1,10 +1,8 @@
 -- What lies ahead is moved down byte by byte.
 use mathlib.Core.Path.{◌≡◌, refl}
-use mathlib.Core.List.{◌++◌}
-use Prim.Native.Nat.{◌≤◌, ◌-◌, ◌+◌}
+use Prim.Native.Nat.{◌-◌, ◌+◌}
 use native.Mathlib.Omega.{arith}
-use borrow.Author.Rules.{rules}
-use lib.ListN.{length, take, drop, get_or, length-set}
+use lib.ListN.{get_or, length-set}
 use Rattle.runlog.proofs.Moves.{move_turn}
 use Rattle.runlog.proofs.compact.Goals as goal
 

@@ -1,11 +1,8 @@
 -- What lies ahead is moved down byte by byte.
-use mathlib.Core.Path.{◌≡◌, refl}
+use mathlib.Core.Path.{◌≡◌}
 use mathlib.Core.List.{◌++◌}
 use Prim.Native.Nat.{◌≤◌, ◌-◌, ◌+◌}
-use native.Mathlib.Omega.{arith}
-use borrow.Author.Rules.{rules}
-use lib.ListN.{length, take, drop, get_or, length-set}
-use Rattle.runlog.proofs.Moves.{move_turn}
+use lib.ListN.{length, take, drop}
 use Rattle.runlog.proofs.compact.Given as goal
 
 abbrev pub invariant-loop-i : goal.invariant-loop-i

@@ -1,18 +1,15 @@
 -- The loop keeps what is read and put so far, and a tally that stands for its total; it ends where the room is used up or the rule stops.
-use mathlib.Core.Path.{◌≡◌, sym, ◌∙◌, subst}
+use mathlib.Core.Path.{sym, ◌∙◌, subst}
 use Prim.Native.Nat.{◌-◌}
 use native.Mathlib.Omega.{arith}
-use borrow.Author.Rules.{rules}
 use lib.Ieee.{Float}
-use lib.ListN.{length}
 use Rattle.chemstation.proofs.Answers.{answered}
 use Rattle.streams.specs.Next.{unscaled_of}
 use Rattle.sums.specs.Sums.{plus}
-use Rattle.sums.specs.declared.Total.{Total}
 use Rattle.tally.specs.Tally.{added_to}
 use Rattle.tally.proofs.Laws.{StandsFor, starts, adds, totals}
 use Rattle.tally.specs.declared.Tally.{Tally}
-use Rattle.runlog.proofs.Logs.{logged_as, summed, line_some, no_room, logged_stops, Logging, logging_start, logging_more, logging_end}
+use Rattle.runlog.proofs.Logs.{logged_as, summed, line_some, no_room, logged_stops, logging_start, logging_more, logging_end}
 use Rattle.runlog.proofs.log_records.Goals as goal
 
 pub loop-out-init : goal.loop-out-init

@@ -1,5 +1,4 @@
 -- The record type, and the rest as stored.
-use borrow.Author.Rules.{rules}
 use Rattle.states.proofs.array_from.Goals as goal
 
 pub returns : goal.returns

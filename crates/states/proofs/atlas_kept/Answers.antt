@@ -1,6 +1,5 @@
 -- By the case.
 use mathlib.Core.Path.{sym, ap, ◌∙◌}
-use borrow.Author.Rules.{rules}
 use Rattle.states.specs.State.{atlas_kept}
 use Rattle.states.proofs.atlas_kept.Goals as goal
 

@@ -1,5 +1,4 @@
 -- By the reading of the state that the atlas reading has there.
-use borrow.Author.Rules.{rules}
 use Rattle.states.proofs.States.{has_atlas_lem, no_atlas}
 use Rattle.states.proofs.atlas_state.Goals as goal
 

@@ -1,6 +1,5 @@
 -- By the kind.
 use mathlib.Core.Path.{sym, ap, ◌∙◌}
-use borrow.Author.Rules.{rules}
 use Rattle.states.specs.State.{counts_of}
 use Rattle.states.proofs.counts_of.Goals as goal
 

@@ -1,6 +1,5 @@
 -- By the kind.
 use mathlib.Core.Path.{sym, ap, ◌∙◌}
-use borrow.Author.Rules.{rules}
 use Rattle.states.specs.State.{numbers_of}
 use Rattle.states.proofs.numbers_of.Goals as goal
 

@@ -1,7 +1,6 @@
 -- By the reading.
 use mathlib.Core.Path.{sym, ap, ◌∙◌}
 use native.Mathlib.Omega.{arith}
-use borrow.Author.Rules.{rules}
 use Rattle.states.specs.State.{atlas_kept, state_by}
 use Rattle.states.proofs.States.{no_reading}
 use Rattle.states.proofs.state_by.Goals as goal

@@ -1,7 +1,6 @@
 -- By the first count.
 use mathlib.Core.Path.{sym, ap, ◌∙◌}
 use native.Mathlib.Omega.{arith}
-use borrow.Author.Rules.{rules}
 use lib.ListN.{get_or}
 use Rattle.states.specs.declared.Kept.TheVariants as kept
 use Rattle.states.specs.State.{kept_as, state_of}

@@ -1,6 +1,5 @@
 -- By the kind.
 use mathlib.Core.Path.{sym, ap}
-use borrow.Author.Rules.{rules}
 use Rattle.streams.specs.Next.{stored_of}
 use Rattle.states.proofs.stored_of.Goals as goal
 

@@ -1,6 +1,5 @@
 -- By the state's case.
 use mathlib.Core.Path.{sym, ap}
-use borrow.Author.Rules.{rules}
 use Rattle.streams.specs.Next.{atlas_of}
 use Rattle.streams.proofs.atlas_of.Goals as goal
 

@@ -1,6 +1,5 @@
 -- By the record's case.
 use mathlib.Core.Path.{sym, ap}
-use borrow.Author.Rules.{rules}
 use Rattle.streams.specs.Next.{unscaled_of}
 use Rattle.streams.proofs.unscaled_of.Goals as goal
 

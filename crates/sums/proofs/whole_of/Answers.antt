@@ -1,5 +1,5 @@
 -- The two bounds are -2^53 and 2^53 by their bit patterns, and the tests are those that `counts` comes to.
-use Rattle.std.proofs.Common.{◌∙◌, inl, inr, w64, rules}
+use Rattle.std.proofs.Common.{◌∙◌, w64}
 use lib.Ieee.{of_bits, neg}
 use mir.ValLaws.{to_z-of_z}
 use Rattle.sums.proofs.Values.{tests, in_range}

@@ -1,6 +1,5 @@
 -- By the two tests.
 use mathlib.Core.Path.{refl, sym, ap, ◌∙◌}
-use borrow.Author.Rules.{rules}
 use Rattle.sums.specs.Sums.{plus}
 use Rattle.sums.specs.declared.Total.{Total}
 use Rattle.tally.specs.Tally.{start_of}

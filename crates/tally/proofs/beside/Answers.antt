@@ -2,7 +2,6 @@
 use borrow.Author.Rules.{rules, sfits_of}
 use Prim.Native.Nat.{◌-◌, ◌^◌}
 use mathlib.Core.Path.{◌≡◌, refl}
-use mathlib.Core.Logic.{inl, inr}
 use mathlib.Core.Bool.{true, false}
 use lib.IntN.{ℤ, pos, negsuc}
 use lib.Signed.{le_z}

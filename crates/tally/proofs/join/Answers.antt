@@ -1,5 +1,5 @@
 -- The bit patterns are the numbers 2 ^ 52, 2 ^ 53 and the middle. Inside, the cast loses nothing, and where the total has room, the sum fits.
-use borrow.Author.Rules.{rules, sfits_of}
+use borrow.Author.Rules.{sfits_of}
 use Prim.Native.Nat.{◌-◌, ◌^◌}
 use mathlib.Core.Path.{◌≡◌, refl, sym, subst}
 use mathlib.Core.Bool.{true, false, ◌&&◌}
@@ -9,7 +9,7 @@ use lib.Signed.{le_z}
 use mir.Syntax.{w64}
 use mir.Val.{to_z, of_z, SFits}
 use mir.Facts.{to_z-of_z}
-use lib.Ieee.{Float, binary64, fits, of_bits, of_int}
+use lib.Ieee.{of_bits, of_int}
 use lib.Ieee.Bits.{is_true}
 use Rattle.tally.specs.Tally.{inside, roomy}
 use Rattle.tally.proofs.Laws.{inside_casts, inside_fits, roomy_is, roomy_of}

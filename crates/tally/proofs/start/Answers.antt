@@ -1,6 +1,5 @@
 -- The double to start with, and the total.
 use mathlib.Core.Path.{refl}
-use borrow.Author.Rules.{rules}
 use Rattle.tally.proofs.start.Goals as goal
 
 pub returns : goal.returns

@@ -1,10 +1,7 @@
 -- The invariant: what is left, on top of the total that the tally stands for, adds up to what all does. The measure is what is left of the length.
 use Prim.Native.Nat.{◌-◌}
 use native.Mathlib.Omega.{arith}
-use borrow.Author.Rules.{rules}
-use lib.ListN.{length}
-use Rattle.sums.specs.Sums.{total_from}
-use Rattle.tally.proofs.Laws.{Adding, adding_start, adding_more, adding_end}
+use Rattle.tally.proofs.Laws.{adding_start, adding_more, adding_end}
 use Rattle.tally.proofs.total_from.Goals as goal
 
 pub loop-i-init : goal.loop-i-init

@@ -1,6 +1,5 @@
 -- Without room nothing is written; with it all texts.
 use mathlib.Core.Path.{◌∙◌}
-use borrow.Author.Rules.{rules}
 use borrow.Author.Tests.{leb-true, leb-false}
 use Rattle.utf8.proofs.Cases.{yes, no}
 use Rattle.texts.proofs.Laws.{all_refused, all_laid, answered, counts_kept, counts_dropped}

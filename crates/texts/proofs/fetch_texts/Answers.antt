@@ -1,7 +1,6 @@
 -- The header first; then the texts of one that was opened.
 use mathlib.Core.Path.{sym, ap, ◌∙◌}
 use lib.Seq.{length-take-le}
-use borrow.Author.Rules.{rules}
 use Rattle.rules.specs.Rule.{map_read}
 use Rattle.metadata.proofs.HeaderReads.{read_stopped, never_finished, read_opened, fits}
 use Rattle.fetch.specs.Fetch.{outcome_of}

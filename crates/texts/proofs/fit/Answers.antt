@@ -3,7 +3,6 @@ use mathlib.Core.Path.{sym, ◌∙◌}
 use Prim.Native.Nat.{◌/◌, ◌≤◌}
 use native.Mathlib.Omega.{arith}
 use lib.ListN.{length}
-use borrow.Author.Rules.{rules}
 use borrow.Author.Tests.{leb-true, le-leb}
 use Rattle.texts.specs.Eight.{texts_of, joined, stored_bytes}
 use Rattle.texts.proofs.Joins.{all_bounded}

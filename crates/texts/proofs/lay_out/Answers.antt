@@ -3,9 +3,8 @@ use mathlib.Core.Path.{sym, ◌∙◌}
 use Prim.Native.Nat.{◌-◌, ◌<◌}
 use native.Mathlib.Omega.{arith}
 use lib.ListN.{length}
-use borrow.Author.Rules.{rules}
-use Rattle.texts.specs.Eight.{texts_of, replaced_in_each}
-use Rattle.texts.proofs.Joins.{Laying, lay_starts, eight, text_of_lem, eight_counts, count_of, lay_fits, lays_on, same_room, laid}
+use Rattle.texts.specs.Eight.{texts_of}
+use Rattle.texts.proofs.Joins.{lay_starts, eight, text_of_lem, eight_counts, count_of, lay_fits, lays_on, same_room, laid}
 use Rattle.texts.proofs.lay_out.Goals as goal
 
 pub loop-k-init : goal.loop-k-init

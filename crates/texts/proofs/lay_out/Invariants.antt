@@ -1,11 +1,7 @@
 -- Each turn puts one text more.
-use mathlib.Core.Path.{sym, ◌∙◌}
-use Prim.Native.Nat.{◌-◌, ◌<◌}
-use native.Mathlib.Omega.{arith}
-use lib.ListN.{length}
-use borrow.Author.Rules.{rules}
+use Prim.Native.Nat.{◌-◌}
 use Rattle.texts.specs.Eight.{texts_of, replaced_in_each}
-use Rattle.texts.proofs.Joins.{Laying, lay_starts, eight, text_of_lem, eight_counts, count_of, lay_fits, lays_on, same_room, laid}
+use Rattle.texts.proofs.Joins.{Laying}
 use Rattle.texts.proofs.lay_out.Given as goal
 
 abbrev pub invariant-loop-k : goal.invariant-loop-k

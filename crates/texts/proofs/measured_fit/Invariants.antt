@@ -1,15 +1,9 @@
 -- Each turn counts one text more.
-use mathlib.Core.Path.{◌≡◌, refl, sym, ap, ◌∙◌}
-use Prim.Native.Nat.{◌-◌, ◌≤◌, ◌<◌}
-use native.Mathlib.Omega.{arith}
+use mathlib.Core.Path.{◌≡◌}
+use Prim.Native.Nat.{◌-◌, ◌≤◌}
 use lib.ListN.{length}
-use borrow.Author.Rules.{rules}
-use borrow.Author.Tests.{le-leb, lt-leb}
-use Rattle.written.proofs.Puts.{room_for, length_for, no_room}
-use Rattle.layouts.specs.Table.{field_of}
-use Rattle.fetch.specs.Fetch.{text_of}
-use Rattle.texts.specs.Eight.{texts_of, joined}
-use Rattle.texts.proofs.Joins.{before, none_before, eight, text_of_lem, counts, passes_by, all_before}
+use Rattle.texts.specs.Eight.{texts_of}
+use Rattle.texts.proofs.Joins.{before}
 use Rattle.texts.proofs.measured_fit.Given as goal
 
 abbrev pub invariant-loop-k : goal.invariant-loop-k

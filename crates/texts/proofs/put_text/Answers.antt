@@ -5,7 +5,6 @@ use Prim.Native.Nat.{ℕ, ◌-◌}
 use native.Mathlib.Omega.{arith}
 use lib.ListN.{length, take, drop, length-take, length-drop}
 use lib.Seq.{paste}
-use borrow.Author.Rules.{rules}
 use Rattle.fetch.proofs.Texts.{old_units}
 use Rattle.texts.proofs.Joins.{put_behind}
 use Rattle.texts.proofs.put_text.Goals as goal

@@ -2,7 +2,6 @@
 use mathlib.Core.Path.{◌≡◌, sym, ap}
 use Prim.Native.Nat.{◌+◌, ◌-◌, ◌≤◌, ◌<◌}
 use native.Mathlib.Omega.{arith}
-use borrow.Author.Rules.{rules}
 use borrow.Author.Tests.{le-leb, lt-leb}
 use Rattle.texts.specs.Eight.{stored_bytes}
 use Rattle.texts.proofs.Joins.{stored_within, stored_next}

@@ -1,11 +1,7 @@
 -- Each turn takes the bytes of one text more from the room.
-use mathlib.Core.Path.{◌≡◌, sym, ap}
-use Prim.Native.Nat.{◌+◌, ◌-◌, ◌≤◌, ◌<◌}
-use native.Mathlib.Omega.{arith}
-use borrow.Author.Rules.{rules}
-use borrow.Author.Tests.{le-leb, lt-leb}
+use mathlib.Core.Path.{◌≡◌}
+use Prim.Native.Nat.{◌+◌, ◌-◌, ◌≤◌}
 use Rattle.texts.specs.Eight.{stored_bytes}
-use Rattle.texts.proofs.Joins.{stored_within, stored_next}
 use Rattle.texts.proofs.stored_fit.Given as goal
 
 abbrev pub invariant-loop-k : goal.invariant-loop-k

@@ -3,7 +3,6 @@ use mathlib.Core.Path.{◌≡◌, refl, ap, ◌∙◌, subst}
 use mathlib.Core.List.{List}
 use Prim.Native.Nat.{ℕ}
 use lib.ListN.{length}
-use borrow.Author.Rules.{rules}
 use Rattle.written.specs.Written.{written}
 use Rattle.written.specs.declared.Written.TheVariants.{Bytes, NoRoom}
 use Rattle.written.proofs.Puts.{fills, overflows}

@@ -1,6 +1,5 @@
 -- Where there is room for the text, it is put there.
 use mathlib.Core.Path.{refl}
-use borrow.Author.Rules.{rules}
 use borrow.Author.Tests.{leb-true, leb-false}
 use Rattle.utf8.proofs.Cases.{yes, no}
 use Rattle.utf16.specs.Utf16.{utf8_of}

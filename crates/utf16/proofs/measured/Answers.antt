@@ -1,9 +1,8 @@
 -- The pass stops as soon as there is no room.
 use mathlib.Core.Path.{sym, ap, ◌∙◌, subst}
-use Prim.Native.Nat.{ℕ, ◌+◌, ◌-◌, ◌≤◌}
+use Prim.Native.Nat.{ℕ, ◌+◌}
 use native.Mathlib.Omega.{arith}
 use lib.ListN.{length}
-use borrow.Author.Rules.{rules}
 use Rattle.utf16.specs.Utf16.{utf8_of}
 use Rattle.written.proofs.Puts.{fills, overflows}
 use Rattle.utf16.proofs.Units.{Passing, starts, passes, so_far, all_done}

@@ -1,8 +1,6 @@
 -- Below the surrogates a unit is the scalar; else the two units make the piece.
 use mathlib.Core.Path.{sym, ap, ◌∙◌, subst}
 use Prim.Native.Nat.{ℕ, ◌+◌, ◌<◌}
-use native.Mathlib.Omega.{arith}
-use borrow.Author.Rules.{rules}
 use Rattle.utf16.specs.Utf16.{piece_of, unit_at, First}
 use Rattle.utf16.proofs.Units.{first_is, low_piece}
 use Rattle.utf16.proofs.piece_at.Goals as goal

@@ -2,7 +2,6 @@
 use mathlib.Core.Path.{◌≡◌, sym}
 use native.Mathlib.Omega.{arith}
 use lib.Dec.{leb}
-use borrow.Author.Rules.{rules}
 use borrow.Author.Tests.{lt-leb}
 use Rattle.utf16.specs.Utf16.{alone, replaced_alone, is_high, is_low}
 use Rattle.utf8.proofs.Cases.{yes, no, least, most, outside, inside, not_first, not_second}

@@ -1,7 +1,6 @@
 -- The bytes are stored one by one, by the length of the UTF-8.
 use native.Mathlib.Omega.{arith}
 use lib.ListN.{length-set}
-use borrow.Author.Rules.{rules}
 use Rattle.utf16.proofs.Stores.{fits_1, fits_2, fits_3, fits_4, stored_1, stored_2, stored_3, stored_4}
 use Rattle.utf16.proofs.put_scalar.Goals as goal
 

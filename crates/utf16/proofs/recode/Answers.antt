@@ -1,8 +1,6 @@
 -- The second pass, with room for all of it.
-use Prim.Native.Nat.{◌-◌}
 use native.Mathlib.Omega.{arith}
-use lib.ListN.{length}
-use Rattle.utf16.proofs.Units.{Putting, put_starts, same, put_fits, put_on, put_done, Counting, count_starts, count_on, count_fits, count_done}
+use Rattle.utf16.proofs.Units.{put_starts, same, put_fits, put_on, put_done, count_starts, count_on, count_fits, count_done}
 use Rattle.utf16.proofs.recode.Goals as goal
 
 pub loop-at-init : goal.loop-at-init

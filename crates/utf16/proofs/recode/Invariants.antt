@@ -1,8 +1,7 @@
 -- The second pass, with room for all of it.
 use Prim.Native.Nat.{◌-◌}
-use native.Mathlib.Omega.{arith}
 use lib.ListN.{length}
-use Rattle.utf16.proofs.Units.{Putting, put_starts, same, put_fits, put_on, put_done, Counting, count_starts, count_on, count_fits, count_done}
+use Rattle.utf16.proofs.Units.{Putting, Counting}
 use Rattle.utf16.proofs.recode.Given as goal
 
 abbrev pub invariant-loop-at : goal.invariant-loop-at

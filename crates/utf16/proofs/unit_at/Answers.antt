@@ -1,6 +1,5 @@
 -- Two bytes are a unit, and fewer are none.
 use native.Mathlib.Omega.{arith}
-use borrow.Author.Rules.{rules}
 use Rattle.utf16.proofs.Units.{unit_is, unit_none}
 use Rattle.utf16.proofs.unit_at.Goals as goal
 

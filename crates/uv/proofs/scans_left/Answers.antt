@@ -1,5 +1,4 @@
 -- By whether one point is due.
-use borrow.Author.Rules.{rules}
 use borrow.Author.Tests.{eq-eqb, ne_eqb}
 use Rattle.uv.proofs.scans_left.Goals as goal
 

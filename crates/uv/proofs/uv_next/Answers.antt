@@ -1,6 +1,5 @@
 -- By the counts that are due: none, a scan, or a point.
 use mathlib.Core.Path.{sym}
-use borrow.Author.Rules.{rules}
 use borrow.Author.Tests.{eq-eqb, ne_eqb}
 use Rattle.streams.specs.declared.State.TheVariants.{Uv}
 use Rattle.streams.proofs.ScanningLaws.{scans_done, scan_new, scan_within}

@@ -1,6 +1,5 @@
 -- By what was read of the delta: the point it makes, or why there is none.
 use Prim.Native.Nat.{◌-◌}
-use borrow.Author.Rules.{rules}
 use Rattle.common.specs.Bytes.{le}
 use Rattle.streams.specs.Next.{sum_of}
 use Rattle.uv.specs.Uv.{uv_point}

@@ -1,5 +1,4 @@
 -- A date, or none.
-use borrow.Author.Rules.{rules}
 use Rattle.volumes.proofs.answer_of.Goals as goal
 
 pub returns-in-Instant : goal.returns-in-Instant

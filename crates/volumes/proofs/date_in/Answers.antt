@@ -2,7 +2,6 @@
 use mathlib.Core.Path.{sym, ap, ◌∙◌}
 use native.Mathlib.Omega.{arith}
 use lib.Seq.{length-take-le}
-use borrow.Author.Rules.{rules}
 use Rattle.dates.specs.Dates.{date_of}
 use Rattle.volumes.proofs.Told.{in_buffer, the_text, too_long}
 use Rattle.volumes.proofs.date_in.Goals as goal

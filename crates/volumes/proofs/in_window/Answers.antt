@@ -1,6 +1,5 @@
 -- 19 first.
 use mathlib.Core.Path.{◌∙◌, ap}
-use borrow.Author.Rules.{rules}
 use borrow.Author.Tests.{lt-ltb, le-ltb}
 use Rattle.volumes.specs.Volume.{place_of, placed}
 use Rattle.volumes.proofs.in_window.Goals as goal

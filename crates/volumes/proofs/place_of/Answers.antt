@@ -1,5 +1,4 @@
 -- From the start on, before the end.
-use borrow.Author.Rules.{rules}
 use borrow.Author.Tests.{lt-leb, le-leb, lt-ltb, le-ltb}
 use Rattle.volumes.proofs.place_of.Goals as goal
 

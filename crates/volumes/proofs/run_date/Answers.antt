@@ -1,7 +1,6 @@
 -- The header first; then the date of one that was opened.
 use mathlib.Core.Path.{sym, ap, ◌∙◌}
 use lib.Seq.{length-take-le}
-use borrow.Author.Rules.{rules}
 use Rattle.metadata.proofs.HeaderReads.{read_stopped, never_finished, read_opened, fits}
 use Rattle.volumes.specs.Volume.{told}
 use Rattle.volumes.proofs.Told.{tells_refusal, tells_date}

@@ -1,6 +1,5 @@
 -- Without room nothing is put; with it the whole text.
 use mathlib.Core.Path.{refl, ◌∙◌}
-use borrow.Author.Rules.{rules}
 use Rattle.written.proofs.Puts.{puts, refuses, paste_start}
 use Rattle.written.proofs.copy_text.Goals as goal
 

@@ -1,10 +1,9 @@
 -- Each turn takes the copy of i bytes to the copy of i + 1.
 use mathlib.Core.Path.{◌≡◌, ap, ◌∙◌}
-use Prim.Native.Nat.{ℕ, ◌-◌, ◌≤◌}
+use Prim.Native.Nat.{ℕ}
 use native.Mathlib.Omega.{arith}
 use lib.ListN.{length}
 use lib.Seq.{paste, paste-zero, length-paste}
-use borrow.Author.Rules.{rules}
 use Rattle.written.proofs.Puts.{paste_on}
 use Rattle.written.proofs.put.Goals as goal
 

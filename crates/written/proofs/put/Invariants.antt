@@ -1,11 +1,7 @@
 -- Each turn takes the copy of i bytes to the copy of i + 1.
-use mathlib.Core.Path.{◌≡◌, ap, ◌∙◌}
-use Prim.Native.Nat.{ℕ, ◌-◌, ◌≤◌}
-use native.Mathlib.Omega.{arith}
-use lib.ListN.{length}
-use lib.Seq.{paste, paste-zero, length-paste}
-use borrow.Author.Rules.{rules}
-use Rattle.written.proofs.Puts.{paste_on}
+use mathlib.Core.Path.{◌≡◌}
+use Prim.Native.Nat.{◌-◌, ◌≤◌}
+use lib.Seq.{paste}
 use Rattle.written.proofs.put.Given as goal
 
 abbrev pub invariant-loop-i : goal.invariant-loop-i
