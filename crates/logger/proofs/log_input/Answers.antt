@@ -2,7 +2,6 @@
 use Rattle.std.proofs.Common.{◌≡◌, List, ℕ, sym, ◌∙◌, subst, arith}
 use Rattle.places.specs.declared.Place.{Place}
 use Rattle.places.specs.declared.Ask.{Ask}
-use Rattle.places.specs.declared.Ask.TheVariants as ask
 use Rattle.places.specs.Machine.{step_of}
 use Rattle.runs.specs.Whole.{Falls}
 use Rattle.runs.proofs.Falls.{falls}
