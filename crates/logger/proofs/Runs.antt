@@ -9,7 +9,7 @@ use Rattle.places.specs.declared.Place.{Place}
 use Rattle.places.specs.declared.Ask.{Ask}
 use Rattle.places.specs.declared.Ask.TheVariants as ask
 use Rattle.places.specs.Machine.{most, started, step_of, took_of, IsStep}
-use Rattle.runs.specs.Whole.{LogOfInput, Writes}
+use Rattle.runs.specs.Whole.{Writes}
 use Rattle.runs.specs.Whole.Writes.{closed, written, told, taken}
 use Rattle.runs.proofs.Owes.{writes_log}
 use Rattle.logger.specs.Shell.{TookPart, Logged}

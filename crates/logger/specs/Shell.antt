@@ -1,5 +1,5 @@
 -- What the log program does with its input and output.
-use Rattle.std.specs.Prelude.{ℕ, ◌+◌, ◌-◌, ◌≤◌, ◌≡◌, List, [], ◌∷◌, ◌++◌, length, take, Some, codes}
+use Rattle.std.specs.Prelude.{ℕ, ◌+◌, ◌-◌, ◌≤◌, ◌≡◌, List, [], ◌++◌, length, take, Some, codes}
 use Rattle.std.specs.declared.option.Option.{Option}
 use Rattle.streams.specs.declared.Mode.{Mode}
 use Rattle.streams.specs.declared.Mode.TheVariants.{Plain, Atlas}
