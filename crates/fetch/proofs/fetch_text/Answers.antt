@@ -30,13 +30,16 @@ fetch_from-requires c =
     (omega (arith, most 1 8 n (yes c.in_range-2.ensures c.if-not-in_range-2.false-raw)), (fits _ _ _ _ c.open_header-o.ensures c.in-Header.is).0.described)
 
 pub returns-in-Stopped : goal.returns-in-Stopped
-returns-in-Stopped c = record { text = (passes_refusal _ _ _ _ _ c.refused-in-Stopped.ensures
-    (fetch_opens _ _ _ (yes c.in_range.ensures c.if-not-in_range.false-raw) (yes c.in_range-2.ensures c.if-not-in_range-2.false-raw)
-    ∙ ap (map_read _) (read_stopped _ _ _ _ c.open_header-o.ensures c.in-Stopped.is))
-    c.refusal_of.ensures).0; replaced = (passes_refusal _ _ _ _ _ c.refused-in-Stopped.ensures
-    (fetch_opens _ _ _ (yes c.in_range.ensures c.if-not-in_range.false-raw) (yes c.in_range-2.ensures c.if-not-in_range-2.false-raw)
-    ∙ ap (map_read _) (read_stopped _ _ _ _ c.open_header-o.ensures c.in-Stopped.is))
-    c.refusal_of.ensures).1 }
+returns-in-Stopped c = record {
+  text = (passes_refusal _ _ _ _ _ c.refused-in-Stopped.ensures
+      (fetch_opens _ _ _ (yes c.in_range.ensures c.if-not-in_range.false-raw) (yes c.in_range-2.ensures c.if-not-in_range-2.false-raw)
+      ∙ ap (map_read _) (read_stopped _ _ _ _ c.open_header-o.ensures c.in-Stopped.is))
+      c.refusal_of.ensures).0;
+  replaced = (passes_refusal _ _ _ _ _ c.refused-in-Stopped.ensures
+      (fetch_opens _ _ _ (yes c.in_range.ensures c.if-not-in_range.false-raw) (yes c.in_range-2.ensures c.if-not-in_range-2.false-raw)
+      ∙ ap (map_read _) (read_stopped _ _ _ _ c.open_header-o.ensures c.in-Stopped.is))
+      c.refusal_of.ensures).1;
+}
 
 pub returns-in-Header : goal.returns-in-Header
 returns-in-Header c =

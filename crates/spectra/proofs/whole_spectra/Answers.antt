@@ -21,5 +21,4 @@ returns c = record {
   dad_over = dad_over;
   dad_ends = dad_ends;
   uv_ends = uv_ends;
-
 }

@@ -20,5 +20,4 @@ returns c = record {
   unequal = unequal;
   unwritten = unwritten;
   shown = shown;
-
 }
