@@ -3,7 +3,7 @@ use mathlib.Core.Path.{sym, ◌∙◌, subst}
 use types.Run.{OneOf}
 use borrow.Enum.Refused.{opened}
 use denote.Enum.Declared.{tag_of}
-use mathlib.Core.List.{◌∷◌}
+use mathlib.Core.List.{◌∷◌, []}
 use Rattle.streams.specs.contracts.State.{the_type}
 use Rattle.chemstation.proofs.Spectrum.{plain_answers, others_end}
 use Rattle.chemstation.proofs.spectrum_next.Goals as goal

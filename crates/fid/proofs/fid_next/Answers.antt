@@ -1,6 +1,6 @@
 -- Each answer is what the rule of FID reads of the bytes that are there.
 use mathlib.Core.Path.{◌≡◌, refl, sym, ap, ap₂, ◌∙◌}
-use mathlib.Core.List.{◌∷◌}
+use mathlib.Core.List.{◌∷◌, []}
 use mir.Syntax.{w16, w32}
 use mir.Val.{to_z, of_z}
 use native.Mathlib.Omega.{arith}
