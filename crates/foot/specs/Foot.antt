@@ -47,7 +47,7 @@ sum_added a ws = foldl (λ z w. z +ℤ w.value) a ws
 
 -- ---- the theorem
 
--- what a log is made of where the opening gives a header (`opened-run`)
+-- what a log is made of where the opening gives a header (`opened_run`)
 pub record OpenedLog (mode : Mode) (size kind : ℕ) (F : List ℕ) : Type 0 where
   pub header : Header
   pub taken : ℕ

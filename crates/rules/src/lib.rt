@@ -5,7 +5,7 @@ ghost use Rattle.std.specs.Prelude.{ℕ, List};
 ghost use Rattle.rules.specs.AnyRules.{AnyRules};
 
 // What holds of reading by any rules, said here of states and records that are lists of numbers (a contract cannot range
-// over types; `any-rules` of proofs/ does). Cited by a contract, so that it cannot be left out.
+// over types; `any_rules` of proofs/ does). Cited by a contract, so that it cannot be left out.
 pub fn any_rules()
     ensures { AnyRules (List ℕ) (List ℕ) }
 {}

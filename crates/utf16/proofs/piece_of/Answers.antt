@@ -41,4 +41,4 @@ overflow_add-scalar-2 c = record { fits = omega (arith, most 0xDC00 0xDFFF c.arg
 pub returns : goal.returns
 returns c =
     let i = yes c.within.ensures c.if-not-within.false-raw in
-    pair_piece c.args.u c.args.v (inside 0xD800 0xDBFF c.args.u (least 0xD800 0xDFFF c.args.u i) c.if-u-gt56319.false) (yes c.within-2.ensures c.if-not-within-2.false-raw)
+    pair_piece c.args.u c.args.v (inside 0xD800 0xDBFF c.args.u (least 0xD800 0xDFFF c.args.u i) (omega arith)) (yes c.within-2.ensures c.if-not-within-2.false-raw)
