@@ -10,7 +10,7 @@ ghost use Rattle.layouts.specs.Layouts.{layout_of};
 ghost use Rattle.metadata.specs.Metadata.{time_at, double_at, described_by, blank, step_of, scans_at, after_description, after_bytes, open_rule, Opens};
 ghost use Rattle.metadata.specs.Remaining.{after_minimum, OpensWhole};
 
-use agilent::{HeaderSize, read_agilent_header};
+use agilent::read_agilent_header;
 use common::{be_i32, be_u16, be_u32, be_u64};
 use error::{Refusal, Stopped};
 use floats::{
@@ -252,7 +252,7 @@ pub fn open_header(kind: u8, s: &[u8], last: bool) -> OpenedHeader
     ensures { Opens s.now (read last (open_rule kind) s.now) result }
 {
     match read_agilent_header(kind, s, last) {
-        HeaderSize::Stopped(z) => not_opened(z),
-        HeaderSize::Bytes(n) => from_header(kind, &s[0..n]),
+        Err(z) => not_opened(z),
+        Ok(n) => from_header(kind, &s[0..n]),
     }
 }

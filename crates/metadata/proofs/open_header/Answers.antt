@@ -11,20 +11,20 @@ use Rattle.metadata.proofs.open_header.Goals as goal
 
 pub slice_bounds-from_header-end : goal.slice_bounds-from_header-end
 slice_bounds-from_header-end c =
-    let g = header_gives c.args.kind c.args.last c.args.s.now _ (ap size_read (sym c.in-Bytes.is) ∙ c.read_agilent_header.ensures) in
+    let g = header_gives c.args.kind c.args.last c.args.s.now _ (ap size_read (sym c.in-Ok.is) ∙ c.read_agilent_header.ensures) in
     g.2
 
 pub from_header-requires : goal.from_header-requires
 from_header-requires c =
-    let g = header_gives c.args.kind c.args.last c.args.s.now _ (ap size_read (sym c.in-Bytes.is) ∙ c.read_agilent_header.ensures) in
+    let g = header_gives c.args.kind c.args.last c.args.s.now _ (ap size_read (sym c.in-Ok.is) ∙ c.read_agilent_header.ensures) in
     rw (sub-zero, length-take-le _ c.args.s.now g.2) g.1
 
-pub returns-in-Stopped : goal.returns-in-Stopped
-returns-in-Stopped c =
-    let e = header_stops c.args.kind c.args.last c.args.s.now _ (ap size_read (sym c.in-Stopped.is) ∙ c.read_agilent_header.ensures) in
+pub returns-in-Err : goal.returns-in-Err
+returns-in-Err c =
+    let e = header_stops c.args.kind c.args.last c.args.s.now _ (ap size_read (sym c.in-Err.is) ∙ c.read_agilent_header.ensures) in
     subst (λ x. Opens c.args.s.now x c.not_opened.result) (sym (open_reads c.args.kind c.args.last c.args.s.now e)) (c.not_opened.ensures c.args.s.now)
 
-pub returns-in-Bytes : goal.returns-in-Bytes
-returns-in-Bytes c =
-    let g = header_gives c.args.kind c.args.last c.args.s.now _ (ap size_read (sym c.in-Bytes.is) ∙ c.read_agilent_header.ensures) in
-    header_opened c.args.kind c.args.last c.args.s.now _ _ (ap (λ k. take k c.args.s.now) (sub-zero c.in-Bytes.n)) g.2 c.from_header.ensures g.0
+pub returns-in-Ok : goal.returns-in-Ok
+returns-in-Ok c =
+    let g = header_gives c.args.kind c.args.last c.args.s.now _ (ap size_read (sym c.in-Ok.is) ∙ c.read_agilent_header.ensures) in
+    header_opened c.args.kind c.args.last c.args.s.now _ _ (ap (λ k. take k c.args.s.now) (sub-zero c.in-Ok.n)) g.2 c.from_header.ensures g.0
