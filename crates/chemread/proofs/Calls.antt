@@ -5,6 +5,7 @@ use mathlib.Core.List.{List, [], ◌∷◌}
 use Prim.Native.Nat.{ℕ}
 use lib.IntN.{ℤ}
 use denote.Triple.Both.{Both}
+use Rattle.std.specs.Prelude.{Some, None}
 use lib.ListN.{length}
 use Rattle.rules.specs.Rule.{Read, got, stops, refused, read, map_read}
 use Rattle.rules.specs.Calls.{stopped, nothing, read_up_to}
@@ -27,7 +28,6 @@ use Rattle.opening.specs.declared.Opening.TheVariants as opening
 use Rattle.opening.specs.declared.OpenedRun.{OpenedRun}
 use Rattle.reader.specs.declared.Filled.{Filled}
 use Rattle.sums.specs.declared.Total.{Total}
-use Rattle.states.specs.declared.Kept.TheVariants as kept
 use Rattle.streams.specs.Next.{stored_of}
 use Rattle.states.specs.State.{numbers_of, counts_of, reading_of, state_by}
 use Rattle.states.proofs.States.{keeps_states, kept_reading}
@@ -58,7 +58,7 @@ opened_into mode kind (got h n) d (opening.Run st m) old b p q =
     let begins : st ≡ begins_by mode kind h = cc in
     let reading = ap reading_of begins ∙ b h n refl in
     let same : (k : Header) (i : ℕ) → got h n ≡ got k i → begins_by mode kind h ≡ begins_by mode kind k = λ k i e. cc in
-    record { answer = refl; memory = λ j. opened_as (reading j) (described j) (begins j); state = λ k i e. keeps_states st ∙ ap kept.State (begins ∙ same k i e) }
+    record { answer = refl; memory = λ j. opened_as (reading j) (described j) (begins j); state = λ k i e. keeps_states st ∙ ap Some (begins ∙ same k i e) }
 opened_into mode kind (got h n) d (opening.Stopped z) old b p q = absurd (got≢stops (sym p))
 opened_into mode kind (stops z) d (opening.Run st m) old b p q = absurd (got≢stops p)
 opened_into mode kind (stops z) d (opening.Stopped y) old b p q =
@@ -83,10 +83,10 @@ fetches_into x f g old new n h e =
 
 -- ---- Fill columns
 
-state_is : {st t : State} → kept.State st ≡ kept.State t → st ≡ t
+state_is : {st t : State} → Some st ≡ Some t → st ≡ t
 state_is e = cc
 
-none_is : {t : State} → ¬ (kept.NoKind ≡ kept.State t)
+none_is : {t : State} → ¬ (None ≡ Some t)
 none_is e = false≢true cc
 
 abbrev filled : Filled → Columns → Filling
@@ -100,19 +100,19 @@ fill_stays st s last old = go (equal_lengths old)
     go true = reading_stays last (length old.time) st s
     go false = refl
 
-pub fills_into : (reading : ℕ) (st : State) (s : List ℕ) (last : Bool) (r : Filled) (old : Filling) (new : Columns) → state_by reading old.numbers old.counts old.stored ≡ kept.State st → FilledBy (fill_of st s last old.columns) r old.columns new →
+pub fills_into : (reading : ℕ) (st : State) (s : List ℕ) (last : Bool) (r : Filled) (old : Filling) (new : Columns) → state_by reading old.numbers old.counts old.stored ≡ Some st → FilledBy (fill_of st s last old.columns) r old.columns new →
     FillsInto reading s last (closing_number (closing_of r.closing)) (record { entry = old; exit = filled r new })
 fills_into reading st s last r old new e f =
     let after = r.state in
     let same : reading_of after ≡ reading = ap reading_of f.state ∙ fill_stays st s last old.columns ∙ kept_reading reading old.numbers old.counts old.stored e in
-    let holds : state_by reading (numbers_of after) (counts_of after) (stored_of after) ≡ kept.State after = subst (λ k. state_by k (numbers_of after) (counts_of after) (stored_of after) ≡ kept.State after) same (keeps_states after) in
+    let holds : state_by reading (numbers_of after) (counts_of after) (stored_of after) ≡ Some after = subst (λ k. state_by k (numbers_of after) (counts_of after) (stored_of after) ≡ Some after) same (keeps_states after) in
     record {
       answer = rw e (ap closing_number f.closing);
       memory = rw e λ j. record { numbers = numbers_of (f.state j); counts = counts_of (f.state j); stored = stored_of (f.state j); columns = f.columns j; given = f.count j ∷ f.consumed j ∷ [] };
-      state = λ t h. let before : st ≡ t = state_is (sym e ∙ h) in holds ∙ ap kept.State (f.state ∙ ap (λ t. (fill_of t s last old.columns).state) before);
+      state = λ t h. let before : st ≡ t = state_is (sym e ∙ h) in holds ∙ ap Some (f.state ∙ ap (λ t. (fill_of t s last old.columns).state) before);
     }
 
-pub fills_nothing : (reading : ℕ) (s : List ℕ) (last : Bool) (old : Filling) → state_by reading old.numbers old.counts old.stored ≡ kept.NoKind →
+pub fills_nothing : (reading : ℕ) (s : List ℕ) (last : Bool) (old : Filling) → state_by reading old.numbers old.counts old.stored ≡ None →
     FillsInto reading s last 1 (record { entry = old; exit = record { numbers = old.numbers; counts = old.counts; stored = old.stored; columns = old.columns; given = 0 ∷ 0 ∷ [] } })
 fills_nothing reading s last old e = record { answer = rw e; memory = rw e; state = λ t h. absurd (none_is (sym e ∙ h)) }
 

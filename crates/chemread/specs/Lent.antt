@@ -1,5 +1,5 @@
 -- What the lent memory holds after each call, by the definitions of Open, Fetch a text, Fill columns, totals and run dates.
-use Rattle.std.specs.Prelude.{◌≡◌, Bool, List, [], ◌∷◌, ℕ, length, ℤ, Float}
+use Rattle.std.specs.Prelude.{◌≡◌, Bool, List, [], ◌∷◌, ℕ, length, ℤ, Float, Option, Some, None}
 use denote.Triple.Both.{Both}
 use Rattle.rules.specs.Rule.{Read, got, stops, map_read}
 use Rattle.rules.specs.Calls.{Reading}
@@ -13,8 +13,6 @@ use Rattle.streams.specs.declared.Mode.TheVariants.{Plain, Atlas}
 use Rattle.streams.specs.declared.Record.{Record}
 use Rattle.modes.specs.Modes.{begins_by}
 use Rattle.reader.specs.Columns.{Columns, Lent, columns_with, fill_of}
-use Rattle.states.specs.declared.Kept.{Kept}
-use Rattle.states.specs.declared.Kept.TheVariants as kept
 use Rattle.streams.specs.Next.{stored_of}
 use Rattle.states.specs.State.{numbers_of, counts_of, state_by}
 use Rattle.error.specs.Number.{closing_number}
@@ -75,7 +73,7 @@ pub record OpensInto (mode : Mode) (kind : ℕ) (x : Read Header) (r : ℕ) (m :
   pub answer : r ≡ read_number x
   pub memory : m.exit ≡ opened_by mode kind x m.entry
   -- the numbers hold the state before the first record
-  pub state : (h : Header) (n : ℕ) → x ≡ got h n → state_by m.exit.reading m.exit.numbers m.exit.counts m.exit.stored ≡ kept.State (begins_by mode kind h)
+  pub state : (h : Header) (n : ℕ) → x ≡ got h n → state_by m.exit.reading m.exit.numbers m.exit.counts m.exit.stored ≡ Some (begins_by mode kind h)
 
 -- ---- Fetch a text
 
@@ -132,16 +130,16 @@ filled_by g old = record {
 }
 
 -- without a state nothing is given, and the rest is as it was
-abbrev filling_after : Kept → List ℕ → Bool → Filling → Filling
-filling_after (kept.State st) s last old = filled_by (fill_of st s last old.columns) old.columns
-filling_after kept.NoKind s last old = record { numbers = old.numbers; counts = old.counts; stored = old.stored; columns = old.columns; given = 0 ∷ 0 ∷ [] }
+abbrev filling_after : Option State → List ℕ → Bool → Filling → Filling
+filling_after (Some st) s last old = filled_by (fill_of st s last old.columns) old.columns
+filling_after None s last old = record { numbers = old.numbers; counts = old.counts; stored = old.stored; columns = old.columns; given = 0 ∷ 0 ∷ [] }
 
-abbrev filling_number : Kept → List ℕ → Bool → Columns → ℕ
-filling_number (kept.State st) s last old = closing_number (fill_of st s last old).closing
-filling_number kept.NoKind s last old = 1
+abbrev filling_number : Option State → List ℕ → Bool → Columns → ℕ
+filling_number (Some st) s last old = closing_number (fill_of st s last old).closing
+filling_number None s last old = 1
 
 -- the state that the numbers hold under a reading
-abbrev kept_in : ℕ → Filling → Kept
+abbrev kept_in : ℕ → Filling → Option State
 kept_in reading f = state_by reading f.numbers f.counts f.stored
 
 -- the answer r and the lent memory m, from the reading and the bytes s
@@ -149,7 +147,7 @@ pub record FillsInto (reading : ℕ) (s : List ℕ) (last : Bool) (r : ℕ) (m :
   pub answer : r ≡ filling_number (kept_in reading m.entry) s last m.entry.columns
   pub memory : m.exit ≡ filling_after (kept_in reading m.entry) s last m.entry
   -- under the same reading the numbers hold the state after the last record
-  pub state : (st : State) → kept_in reading m.entry ≡ kept.State st → kept_in reading m.exit ≡ kept.State (fill_of st s last m.entry.columns).state
+  pub state : (st : State) → kept_in reading m.entry ≡ Some st → kept_in reading m.exit ≡ Some (fill_of st s last m.entry.columns).state
 
 -- ---- the sum of a column
 

@@ -19,7 +19,7 @@ use fetch::Fetched;
 use metadata::ChemstationMetadata;
 use opening::Opening;
 use reader::Closing;
-use states::Kept;
+use states::Stored;
 use streams::Mode;
 use sums::Total;
 use volumes::{Placed, RunDate};
@@ -114,10 +114,11 @@ fn open_into(
             *text_starts = starts;
             let lengths = d.text_lengths;
             *text_lengths = lengths;
-            *numbers = states::numbers_of(st);
-            *counts = states::counts_of(st);
-            *stored_time = states::stored_of(st);
-            *reading = states::reading_of(st);
+            let stored = Stored::from(st);
+            *numbers = stored.numbers;
+            *counts = stored.counts;
+            *stored_time = stored.stored_time;
+            *reading = stored.reading;
             GIVEN
         }
     }
@@ -262,27 +263,25 @@ pub extern "C" fn chemstation_fill(
 ) -> u8
     ensures { FillsInto reading s.now last result (lent_filling numbers counts stored_time (lent_columns time axis unscaled scaled minutes leftover) given) }
 {
-    let x = *numbers;
-    let n = *counts;
-    let stored = *stored_time;
-    match states::state_by(reading, x, n, stored) {
-        Kept::NoKind => {
-            *given = [0, 0];
-            error::number_of(Refusal::UnknownKind)
-        }
-        Kept::State(st) => {
-            let f = reader::fill_columns(
-                st, s, last, time, axis, unscaled, scaled, minutes, leftover,
-            );
-            let after = f.state;
-            *numbers = states::numbers_of(after);
-            *counts = states::counts_of(after);
-            *stored_time = states::stored_of(after);
-            *given = [f.count, f.consumed];
-            let closing = f.closing;
-            closing_number(closing)
-        }
-    }
+    let kept = Stored {
+        numbers: *numbers,
+        counts: *counts,
+        stored_time: *stored_time,
+        reading,
+    };
+    let Some(st) = kept.state() else {
+        *given = [0, 0];
+        return error::number_of(Refusal::UnknownKind);
+    };
+    let f = reader::fill_columns(
+        st, s, last, time, axis, unscaled, scaled, minutes, leftover,
+    );
+    let after = Stored::from(f.state);
+    *numbers = after.numbers;
+    *counts = after.counts;
+    *stored_time = after.stored_time;
+    *given = [f.count, f.consumed];
+    closing_number(f.closing)
 }
 
 // ---- the sum of a column
