@@ -115,8 +115,10 @@ fn open_into(
             let lengths = d.text_lengths;
             *text_lengths = lengths;
             let stored = Stored::from(st);
-            *numbers = stored.numbers;
-            *counts = stored.counts;
+            let doubles = stored.numbers;
+            *numbers = doubles;
+            let wholes = stored.counts;
+            *counts = wholes;
             *stored_time = stored.stored_time;
             *reading = stored.reading;
             GIVEN
@@ -263,9 +265,11 @@ pub extern "C" fn chemstation_fill(
 ) -> u8
     ensures { FillsInto reading s.now last result (lent_filling numbers counts stored_time (lent_columns time axis unscaled scaled minutes leftover) given) }
 {
+    let x = *numbers;
+    let n = *counts;
     let kept = Stored {
-        numbers: *numbers,
-        counts: *counts,
+        numbers: x,
+        counts: n,
         stored_time: *stored_time,
         reading,
     };
@@ -277,8 +281,10 @@ pub extern "C" fn chemstation_fill(
         st, s, last, time, axis, unscaled, scaled, minutes, leftover,
     );
     let after = Stored::from(f.state);
-    *numbers = after.numbers;
-    *counts = after.counts;
+    let x = after.numbers;
+    *numbers = x;
+    let n = after.counts;
+    *counts = n;
     *stored_time = after.stored_time;
     *given = [f.count, f.consumed];
     closing_number(f.closing)

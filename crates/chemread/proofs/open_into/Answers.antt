@@ -7,5 +7,5 @@ returns-in-Stopped c = rw c.stop_number.ensures (opens_into _ _ c.open_by-o.ensu
 
 pub returns-in-Run : goal.returns-in-Run
 returns-in-Run c =
-    rw (c.header_of.ensures, c.corrections_of.ensures, c.numbers_of.ensures, c.counts_of.ensures, c.stored_of.ensures, c.reading_of.ensures)
+    rw (c.header_of.ensures, c.corrections_of.ensures, c.from-stored.ensures)
     (opens_into _ _ c.open_by-o.ensures c.in-Run.is)
