@@ -10,10 +10,10 @@ ghost use Rattle.array.specs.Array.{array_made, array_rule};
 use common::{le_u32, le_u64};
 use error::{Stopped, cut};
 use floats::{f64_from_bits, f64_from_f32_bits};
-use streams::{ChemstationArrayRecordType, ChemstationArrayState, Next, Record, Scans, State};
+use streams::{ChemstationArrayRecordType, ChemstationArrayState, Given, Record, Scans, State};
 
 // The record of a stored number, one scan fewer and a time step later.
-fn array_given(st: ChemstationArrayState, x: f64, n: usize) -> Next
+fn array_given(st: ChemstationArrayState, x: f64, n: usize) -> Result<Given, Stopped>
     requires { 0 < st.n_scans_left.0 }
     ensures { answer_of result ≡ got (stepped (sum_of (State.Array st)) (told (array_made st x) [])) n }
 {
@@ -33,28 +33,32 @@ fn array_given(st: ChemstationArrayState, x: f64, n: usize) -> Next
         time_step: st.time_step,
         mult_correction: st.mult_correction,
     };
-    Next::Given(record, State::Array(state), n)
+    Ok(Given {
+        record,
+        state: State::Array(state),
+        bytes: n,
+    })
 }
 
 // The next record of an array.
-pub fn array_next(st: ChemstationArrayState, s: &[u8], last: bool) -> Next
+pub fn array_next(st: ChemstationArrayState, s: &[u8], last: bool) -> Result<Given, Stopped>
     ensures { answer_of result ≡ read last (rule_by (State.Array st) (array_rule st)) s.now }
 {
     let scans = st.n_scans_left.0;
     if scans == 0 {
-        return Next::Stopped(Stopped::Finished);
+        return Err(Stopped::Finished);
     }
     let record_type = st.record_type;
     match record_type {
         ChemstationArrayRecordType::Float32Array => {
             if s.len() < 4 {
-                return Next::Stopped(cut(last));
+                return Err(cut(last));
             }
             array_given(st, f64_from_f32_bits(le_u32(s, 0)), 4)
         }
         ChemstationArrayRecordType::Float64Array => {
             if s.len() < 8 {
-                return Next::Stopped(cut(last));
+                return Err(cut(last));
             }
             array_given(st, f64_from_bits(le_u64(s, 0)), 8)
         }

@@ -6,7 +6,8 @@ ghost use Rattle.rules.specs.Rule.{map_read};
 ghost use Rattle.streams.specs.Next.{answer_of};
 ghost use Rattle.atlas.specs.Atlas.{spent, dad_done, scan_due, debit_of, plain_of, scans_by, after_by, item_by};
 
-use streams::{ChemstationDadState, ChemstationUvState, Next, Scans, State};
+use error::Stopped;
+use streams::{ChemstationDadState, ChemstationUvState, Given, Scans, State};
 
 // The scans due after a point, by those before it and what is then due of its scan.
 fn spend(scans: Scans, due: usize) -> Scans
@@ -166,11 +167,12 @@ fn after_by(debit: Debit, st: State) -> State
 }
 
 // What is answered, by the answer of the plain reading.
-pub fn atlas_by(debit: Debit, plain: Next) -> Next
+pub fn atlas_by(debit: Debit, plain: Result<Given, Stopped>) -> Result<Given, Stopped>
     ensures { answer_of result ≡ map_read (item_by debit) (answer_of plain) }
 {
-    match plain {
-        Next::Given(r, st, n) => Next::Given(r, after_by(debit, st), n),
-        Next::Stopped(z) => Next::Stopped(z),
-    }
+    let given = plain?;
+    Ok(Given {
+        state: after_by(debit, given.state),
+        ..given
+    })
 }

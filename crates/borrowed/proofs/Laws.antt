@@ -10,7 +10,9 @@ use Rattle.rules.specs.Rule.{read}
 use Rattle.rules.proofs.Laws.{by_fit}
 use Rattle.streams.specs.Next.{answer_of}
 use Rattle.chemstation.specs.Next.{rule}
-use Rattle.streams.specs.declared.Next.{Next}
+use Rattle.std.specs.Prelude.{Result}
+use Rattle.error.specs.declared.Stopped.{Stopped}
+use Rattle.streams.specs.declared.Given.{Given}
 use Rattle.streams.specs.declared.State.{State}
 use Rattle.chemstation.proofs.Answers.{answered}
 
@@ -21,6 +23,6 @@ from_left at s = by_fit at s
     (λ h. ap (λ i. drop i s) {x = length s - length (drop at s)} {y = length s} (omega (arith, length-drop at s))
     ∙ drop-length s ∙ sym (drop_of_length-le s {i = at} (omega arith)))
 
-pub answered_at : (st : State) (last : Bool) (s : List ℕ) (at n : ℕ) (x y : Next) → n ≡ length (drop at s)
+pub answered_at : (st : State) (last : Bool) (s : List ℕ) (at n : ℕ) (x y : Result Given Stopped) → n ≡ length (drop at s)
     → answer_of x ≡ read last (rule st) (take (length s - (length s - n)) (drop (length s - n) s)) → x ≡ y → read last (rule st) (drop at s) ≡ answer_of y
 answered_at st last s at n x y l e q = ap (read last (rule st)) (sym (ap (λ m. drop (length s - m) s) l ∙ from_left at s)) ∙ answered st last s (length s - n) x y e q

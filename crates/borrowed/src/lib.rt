@@ -10,7 +10,7 @@ ghost use Rattle.borrowed.specs.Borrowed.{given_of, shown_by, state_by, taken_by
 
 use chemstation::next_record;
 use error::Stopped;
-use streams::{Next, Record, State};
+use streams::{Record, State};
 
 // ---- Next record over a borrow of the state
 
@@ -33,11 +33,11 @@ fn step(st: State, s: &[u8], last: bool) -> Stepped
     ensures { (given_of result.given ≡ shown_by st last s.now) × (result.state ≡ state_by st last s.now) }
 {
     match next_record(st, s, last) {
-        Next::Given(r, after, n) => Stepped {
-            given: Given::Record(r, n),
-            state: after,
+        Ok(next) => Stepped {
+            given: Given::Record(next.record, next.bytes),
+            state: next.state,
         },
-        Next::Stopped(z) => Stepped {
+        Err(z) => Stepped {
             given: Given::Stopped(z),
             state: st,
         },
@@ -64,7 +64,7 @@ fn left_at(s: &[u8], at: usize) -> usize
 
 #[derive(Clone, Copy)]
 pub struct NextAt {
-    pub next: Next,
+    pub next: Result<streams::Given, Stopped>,
     // the position after the record, or as it was
     pub at: usize,
 }
@@ -76,8 +76,11 @@ pub fn next_at(st: State, s: &[u8], at: usize, last: bool) -> NextAt
     let start = s.len() - left_at(s, at);
     let next = next_record(st, &s[start..], last);
     match next {
-        Next::Given(_, _, n) => NextAt { next, at: at + n },
-        Next::Stopped(_) => NextAt { next, at },
+        Ok(given) => NextAt {
+            next,
+            at: at + given.bytes,
+        },
+        Err(_) => NextAt { next, at },
     }
 }
 
@@ -103,7 +106,11 @@ pub fn left<'a>(r: Reader<'a>) -> usize
 }
 
 // The next record; the reader that was lent is moved past it. A refusal, 'finished' and 'more bytes' leave it.
-pub fn next_from<'s, 'a>(r: &'s mut Reader<'a>, st: State, last: bool) -> Next
+pub fn next_from<'s, 'a>(
+    r: &'s mut Reader<'a>,
+    st: State,
+    last: bool,
+) -> Result<streams::Given, Stopped>
     ensures { (answer_of result ≡ read last (rule st) (unread r.old)) × (r.new ≡ moved r.old (taken_by st last (unread r.old))) }
 {
     let t = next_at(st, r.bytes, r.at, last);

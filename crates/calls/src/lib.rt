@@ -10,7 +10,7 @@ ghost use Rattle.calls.specs.MakeCalls.{call_of, calls_of, Makes, Room, asked_in
 
 use opening::Opening;
 use reader::{Closing, Filled};
-use streams::{Mode, Next, State};
+use streams::{Mode, State};
 
 // What the calls answer.
 #[derive(Clone, Copy)]
@@ -78,14 +78,14 @@ fn next_row(
     ensures { Gives next st s.now i result (lent_columns time axis unscaled scaled minutes leftover) }
 {
     match chemstation::next_record(st, s, false) {
-        Next::Stopped(z) => Filled {
+        Err(z) => Filled {
             count: 0,
             consumed: 0,
             state: st,
             closing: Closing::Stopped(z),
         },
-        Next::Given(r, after, k) => {
-            let row = reader::row_of(r);
+        Ok(given) => {
+            let row = reader::row_of(given.record);
             time[i] = row.time;
             axis[i] = row.axis;
             unscaled[i] = row.unscaled;
@@ -94,8 +94,8 @@ fn next_row(
             leftover[i] = row.leftover;
             Filled {
                 count: 1,
-                consumed: k,
-                state: after,
+                consumed: given.bytes,
+                state: given.state,
                 closing: Closing::Full,
             }
         }

@@ -11,7 +11,7 @@ use common::{Endian, le_u16, le_u32};
 use error::{Stopped, cut};
 use floats::{f64_from_u16, f64_from_u32, minutes_of};
 use streams::{
-    Bytes, ChemstationDadState, Delta, DeltaAt, Next, Record, Scans, State, changed_by, delta_at,
+    Bytes, ChemstationDadState, Delta, Given, Record, Scans, State, changed_by, delta_at,
 };
 
 // Bytes of a scan's type, and of its head: type, length, time, start, end, step, and 8 that are passed over.
@@ -37,7 +37,7 @@ fn delta_width(d: Delta) -> usize
 }
 
 // The record of a delta, and the state after it: the value and the bytes due are still those before.
-fn dad_given(st: ChemstationDadState, d: Delta, n: usize) -> Next
+fn dad_given(st: ChemstationDadState, d: Delta, n: usize) -> Result<Given, Stopped>
     ensures { answer_of result ≡ got (stepped (sum_of (State.Dad st)) (told (dad_made st d) (change_of d ∷ []))) n }
 {
     let value = changed_by(st.cur_intensity, d);
@@ -60,37 +60,39 @@ fn dad_given(st: ChemstationDadState, d: Delta, n: usize) -> Next
         wv_step: st.wv_step,
         stored_time: st.stored_time,
     };
-    Next::Given(record, State::Dad(state), n)
+    Ok(Given {
+        record,
+        state: State::Dad(state),
+        bytes: n,
+    })
 }
 
 // The point at a position.
-fn dad_point(st: ChemstationDadState, s: &[u8], at: usize, last: bool) -> Next
+fn dad_point(st: ChemstationDadState, s: &[u8], at: usize, last: bool) -> Result<Given, Stopped>
     requires { at ≤ length s.now }
     ensures { answer_of result ≡ map_read (stepped (sum_of (State.Dad st))) (read_at last (dad_point st []) at s.now) }
 {
-    match delta_at(Endian::Little, s, at, last) {
-        DeltaAt::Read(d, n) => dad_given(st, d, n),
-        DeltaAt::Stopped(z) => Next::Stopped(z),
-    }
+    let (d, n) = delta_at(Endian::Little, s, at, last)?;
+    dad_given(st, d, n)
 }
 
 // The head of a scan and its first point.
-fn dad_scan(st: ChemstationDadState, s: &[u8], last: bool) -> Next
+fn dad_scan(st: ChemstationDadState, s: &[u8], last: bool) -> Result<Given, Stopped>
     requires { 0 < st.n_scans_left.0 }
     ensures { answer_of result ≡ map_read (stepped (sum_of (State.Dad st))) (read_at last (dad_scan st.n_scans_left) 0 s.now) }
 {
     if s.len() < TYPE {
-        return Next::Stopped(cut(last));
+        return Err(cut(last));
     }
     if le_u16(s, 0) != 67 {
-        return Next::Stopped(Stopped::Finished);
+        return Err(Stopped::Finished);
     }
     if s.len() < HEAD {
-        return Next::Stopped(cut(last));
+        return Err(cut(last));
     }
     let bytes = saturating_sub(le_u16(s, 2) as usize, HEAD);
     if bytes == 0 {
-        return Next::Stopped(Stopped::Finished);
+        return Err(Stopped::Finished);
     }
     let stored_time = le_u32(s, 4);
     let state = ChemstationDadState {
@@ -106,12 +108,12 @@ fn dad_scan(st: ChemstationDadState, s: &[u8], last: bool) -> Next
 }
 
 // The next record of DAD.
-pub fn dad_next(st: ChemstationDadState, s: &[u8], last: bool) -> Next
+pub fn dad_next(st: ChemstationDadState, s: &[u8], last: bool) -> Result<Given, Stopped>
     ensures { answer_of result ≡ read last (rule_by (State.Dad st) (dad_rule st)) s.now }
 {
     let n_scans_left = st.n_scans_left;
     if n_scans_left.0 == 0 {
-        return Next::Stopped(Stopped::Finished);
+        return Err(Stopped::Finished);
     }
     let n_bytes_left = st.n_bytes_left;
     if n_bytes_left.0 == 0 {

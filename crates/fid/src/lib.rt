@@ -9,9 +9,9 @@ ghost use Rattle.streams.specs.Next.{sum_of, item_of, stepped, rule_by, answer_o
 ghost use Rattle.fid.specs.Fid.{fid_made, fid_rule};
 
 use common::{be_i16, be_i32, be_u16};
-use error::{cut, ended};
+use error::{Stopped, cut, ended};
 use floats::{f64_from_i16, f64_from_i32, f64_from_u16};
-use streams::{ChemstationFidState, Next, State, trace_point};
+use streams::{ChemstationFidState, Given, State, trace_point};
 
 // Bytes of a delta, and of a restart: its mark, high and low.
 const DELTA: usize = 2;
@@ -19,7 +19,7 @@ const DELTA: usize = 2;
 const RESTART: usize = 8;
 
 // The record of a value, and the state after it.
-fn fid_given(st: ChemstationFidState, slope: f64, value: f64, n: usize) -> Next
+fn fid_given(st: ChemstationFidState, slope: f64, value: f64, n: usize) -> Result<Given, Stopped>
     ensures { answer_of result ≡ got (item_of (fid_made st) (record { slope = slope; value = value })) n }
 {
     let cur_time = st.cur_time + st.time_step;
@@ -32,11 +32,15 @@ fn fid_given(st: ChemstationFidState, slope: f64, value: f64, n: usize) -> Next
         mult_correction: st.mult_correction,
         offset_correction: st.offset_correction,
     };
-    Next::Given(record, State::Fid(state), n)
+    Ok(Given {
+        record,
+        state: State::Fid(state),
+        bytes: n,
+    })
 }
 
 // A restart: high × 65534 + low, slope 0.
-fn fid_restart(st: ChemstationFidState, high: i32, low: u16) -> Next
+fn fid_restart(st: ChemstationFidState, high: i32, low: u16) -> Result<Given, Stopped>
     ensures { answer_of result ≡ got (stepped (sum_of (State.Fid st)) (told (fid_made st) (restarts high low ∷ []))) 8 }
 {
     let intensity = f64_from_i32(high) * 65534.0 + f64_from_u16(low);
@@ -44,7 +48,7 @@ fn fid_restart(st: ChemstationFidState, high: i32, low: u16) -> Next
 }
 
 // A delta: slope += v, value += slope.
-fn fid_slope(st: ChemstationFidState, v: i16) -> Next
+fn fid_slope(st: ChemstationFidState, v: i16) -> Result<Given, Stopped>
     ensures { answer_of result ≡ got (stepped (sum_of (State.Fid st)) (told (fid_made st) (slopes v ∷ []))) 2 }
 {
     let delta = st.cur_delta + f64_from_i16(v);
@@ -53,21 +57,21 @@ fn fid_slope(st: ChemstationFidState, v: i16) -> Next
 }
 
 // The next record of FID.
-pub fn fid_next(st: ChemstationFidState, s: &[u8], last: bool) -> Next
+pub fn fid_next(st: ChemstationFidState, s: &[u8], last: bool) -> Result<Given, Stopped>
     ensures { answer_of result ≡ read last (rule_by (State.Fid st) (fid_rule st)) s.now }
 {
     if s.len() == 0 {
-        return Next::Stopped(ended(last));
+        return Err(ended(last));
     }
     if s.len() < DELTA {
-        return Next::Stopped(cut(last));
+        return Err(cut(last));
     }
     let v = be_i16(s, 0);
     if v != 32767 {
         return fid_slope(st, v);
     }
     if s.len() < RESTART {
-        return Next::Stopped(cut(last));
+        return Err(cut(last));
     }
     fid_restart(st, be_i32(s, 2), be_u16(s, 6))
 }

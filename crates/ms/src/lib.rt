@@ -12,7 +12,7 @@ ghost use Rattle.ms.specs.Ms.{ms_made, ms_point, ms_scans, ms_rule};
 use common::{be_u16, be_u32};
 use error::{Refusal, Stopped, cut};
 use floats::{f64_from_u16, f64_from_u32, minutes_of};
-use streams::{ChemstationMsState, Next, Points, Record, Scans, State};
+use streams::{ChemstationMsState, Given, Points, Record, Scans, State};
 
 // Bytes of a scan's count, and of its head: count, time, and 12 that are passed over.
 const COUNT: usize = 2;
@@ -45,7 +45,7 @@ fn ms_given(
     mz: u16,
     value: f64,
     n: usize,
-) -> Next
+) -> Result<Given, Stopped>
     ensures { answer_of result ≡ got (item_of (ms_made scans points time stored mz) (flat doubles value)) n }
 {
     let record = Record::Mass {
@@ -63,7 +63,11 @@ fn ms_given(
         cur_intensity: value,
         stored_time: stored,
     };
-    Next::Given(record, State::Ms(state), n)
+    Ok(Given {
+        record,
+        state: State::Ms(state),
+        bytes: n,
+    })
 }
 
 // A point, and the footer if it is its scan's last. The value before it makes no difference.
@@ -75,12 +79,12 @@ fn ms_point(
     s: &[u8],
     at: usize,
     last: bool,
-) -> Next
+) -> Result<Given, Stopped>
     requires { (at ≤ length s.now) × (0 < scans.0) × (0 < points.0) }
     ensures { (v : Sum Float) → answer_of result ≡ map_read (stepped v) (read_at last (ms_point scans points time stored) at s.now) }
 {
     if s.len() - at < POINT {
-        return Next::Stopped(cut(last));
+        return Err(cut(last));
     }
     let mz = be_u16(s, at);
     let value = ms_intensity(be_u16(s, at + 2));
@@ -96,7 +100,7 @@ fn ms_point(
         );
     }
     if s.len() - at < LAST_POINT {
-        return Next::Stopped(cut(last));
+        return Err(cut(last));
     }
     ms_given(
         Scans(scans.0 - 1),
@@ -110,12 +114,12 @@ fn ms_point(
 }
 
 // A scan whose count, already read, makes so many points.
-fn ms_scan(scans: Scans, points: Points, s: &[u8], at: usize, last: bool) -> Next
+fn ms_scan(scans: Scans, points: Points, s: &[u8], at: usize, last: bool) -> Result<Given, Stopped>
     requires { (at + 2 ≤ length s.now) × (0 < scans.0) × (0 < points.0) × (points.0 ≡ (be (part at 2 s.now) - 14) / 2) }
     ensures { (v : Sum Float) → answer_of result ≡ map_read (stepped v) (read_at last (ms_scans scans.0) at s.now) }
 {
     if s.len() - at < HEAD {
-        return Next::Stopped(cut(last));
+        return Err(cut(last));
     }
     let stored = be_u32(s, at + COUNT);
     let time = minutes_of(f64_from_u32(stored));
@@ -123,39 +127,39 @@ fn ms_scan(scans: Scans, points: Points, s: &[u8], at: usize, last: bool) -> Nex
 }
 
 // The first point of the next scan that has any: the empty ones are passed over.
-fn ms_scans(due: Scans, s: &[u8], last: bool) -> Next
+fn ms_scans(due: Scans, s: &[u8], last: bool) -> Result<Given, Stopped>
     ensures { (v : Sum Float) → answer_of result ≡ map_read (stepped v) (read_at last (ms_scans due.0) 0 s.now) }
 {
     let mut at: usize = 0;
     let mut left = due.0;
     while left > 0 {
         if s.len() - at < COUNT {
-            return Next::Stopped(cut(last));
+            return Err(cut(last));
         }
         let count = be_u16(s, at);
         if count < 14 {
-            return Next::Stopped(Stopped::Refused(Refusal::MsCountTooSmall));
+            return Err(Stopped::Refused(Refusal::MsCountTooSmall));
         }
         let points = (count - 14) / 2;
         if points != 0 {
             return ms_scan(Scans(left), Points(points as usize), s, at, last);
         }
         if s.len() - at < EMPTY_SCAN {
-            return Next::Stopped(cut(last));
+            return Err(cut(last));
         }
         at = at + EMPTY_SCAN;
         left = left - 1;
     }
-    Next::Stopped(Stopped::Finished)
+    Err(Stopped::Finished)
 }
 
 // The next record of MS.
-pub fn ms_next(st: ChemstationMsState, s: &[u8], last: bool) -> Next
+pub fn ms_next(st: ChemstationMsState, s: &[u8], last: bool) -> Result<Given, Stopped>
     ensures { answer_of result ≡ read last (rule_by (State.Ms st) (ms_rule st)) s.now }
 {
     let scans = st.n_scans_left;
     if scans.0 == 0 {
-        return Next::Stopped(Stopped::Finished);
+        return Err(Stopped::Finished);
     }
     let points = st.n_mzs_left;
     if points.0 == 0 {

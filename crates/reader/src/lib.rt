@@ -9,7 +9,7 @@ ghost use Rattle.reader.specs.Last.{LastDiffers};
 
 use chemstation::next_record;
 use error::{Refusal, Stopped};
-use streams::{Next, Record, State};
+use streams::{Record, State};
 
 // A record as a row of six columns; a kind without an axis has 0.0 there, one without a stored time 0 in the last two.
 #[derive(Clone, Copy)]
@@ -146,7 +146,7 @@ fn fill_equal(
     let mut i: usize = 0;
     while i < time.len() {
         match next_record(cur, &s[at..], last) {
-            Next::Stopped(z) => {
+            Err(z) => {
                 return Filled {
                     count: i,
                     consumed: at,
@@ -154,16 +154,16 @@ fn fill_equal(
                     closing: Closing::Stopped(z),
                 };
             }
-            Next::Given(r, after, k) => {
-                let row = row_of(r);
+            Ok(given) => {
+                let row = row_of(given.record);
                 time[i] = row.time;
                 axis[i] = row.axis;
                 unscaled[i] = row.unscaled;
                 scaled[i] = row.scaled;
                 minutes[i] = row.minutes;
                 leftover[i] = row.leftover;
-                cur = after;
-                at += k;
+                cur = given.state;
+                at += given.bytes;
                 i += 1;
             }
         }

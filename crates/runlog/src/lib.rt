@@ -6,7 +6,7 @@ ghost use Rattle.runlog.specs.Runs.{logged, LoggedBy};
 ghost use Rattle.runlog.specs.Log.{OneLog};
 
 use reader::Closing;
-use streams::{Next, State};
+use streams::State;
 use sums::Total;
 
 // How far a part of the bytes was logged.
@@ -45,7 +45,7 @@ pub fn log_records(
     let mut sum = tally::start(total);
     while out.len() - a >= 70 {
         match chemstation::next_record(cur, &src[f..], last) {
-            Next::Stopped(z) => {
+            Err(z) => {
                 return Logged {
                     state: cur,
                     from: f,
@@ -55,11 +55,11 @@ pub fn log_records(
                     closing: Closing::Stopped(z),
                 };
             }
-            Next::Given(r, after, k) => {
-                sum = tally::add(sum, streams::unscaled_of(r));
-                a = lines::put_record(out, a, r);
-                cur = after;
-                f += k;
+            Ok(given) => {
+                sum = tally::add(sum, streams::unscaled_of(given.record));
+                a = lines::put_record(out, a, given.record);
+                cur = given.state;
+                f += given.bytes;
                 count += 1;
             }
         }

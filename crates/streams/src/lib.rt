@@ -175,12 +175,12 @@ pub fn atlas_of(st: State) -> State
     }
 }
 
-// What Next record answers.
+// What Next record gives: a record, the state after it and the count of bytes that it took.
 #[derive(Clone, Copy)]
-pub enum Next {
-    // a record, the state after it and the count of bytes that it took
-    Given(Record, State, usize),
-    Stopped(Stopped),
+pub struct Given {
+    pub record: Record,
+    pub state: State,
+    pub bytes: usize,
 }
 
 // A record's unscaled intensity.
@@ -216,29 +216,22 @@ pub enum Delta {
     Absolute(i32),
 }
 
-// A delta at a position and the position after it, or why there is none.
-#[derive(Clone, Copy)]
-pub enum DeltaAt {
-    Read(Delta, usize),
-    Stopped(Stopped),
-}
-
-// Reads the delta at a position.
-pub fn delta_at(order: Endian, s: &[u8], at: usize, last: bool) -> DeltaAt
+// The delta at a position and the position after it, or why there is none.
+pub fn delta_at(order: Endian, s: &[u8], at: usize, last: bool) -> Result<(Delta, usize), Stopped>
     requires { at ≤ length s.now }
     ensures { delta_read result ≡ read_at last (delta (order_of order)) at s.now }
 {
     if s.len() - at < 2 {
-        return DeltaAt::Stopped(error::cut(last));
+        return Err(error::cut(last));
     }
     let v = i16_in(order, s, at);
     if v != -32768 {
-        return DeltaAt::Read(Delta::By(v), at + 2);
+        return Ok((Delta::By(v), at + 2));
     }
     if s.len() - at < 6 {
-        return DeltaAt::Stopped(error::cut(last));
+        return Err(error::cut(last));
     }
-    DeltaAt::Read(Delta::Absolute(i32_in(order, s, at + 2)), at + 6)
+    Ok((Delta::Absolute(i32_in(order, s, at + 2)), at + 6))
 }
 
 // The value after a delta.

@@ -10,9 +10,7 @@ ghost use Rattle.uv.specs.Uv.{uv_made, uv_point, uv_begun, uv_scan, uv_left, uv_
 use common::{Endian, le_u16, le_u32};
 use error::{Refusal, Stopped, cut};
 use floats::{f64_from_u16, f64_from_u32, minutes_of};
-use streams::{
-    ChemstationUvState, DeltaAt, Next, Points, Record, Scans, State, changed_by, delta_at,
-};
+use streams::{ChemstationUvState, Given, Points, Record, Scans, State, changed_by, delta_at};
 
 // Bytes of a scan's head: 4 that are passed over, time, start and end; then its step; then 8 more that are passed over.
 const RANGE: usize = 4 + 4 + 2 + 2;
@@ -22,7 +20,7 @@ const STEP: usize = RANGE + 2;
 const HEAD: usize = STEP + 8;
 
 // The record of a value, and the state after it with the scans that are then due.
-fn uv_given(st: ChemstationUvState, scans: Scans, value: f64, n: usize) -> Next
+fn uv_given(st: ChemstationUvState, scans: Scans, value: f64, n: usize) -> Result<Given, Stopped>
     requires { 0 < st.n_wvs_left.0 }
     ensures { answer_of result ≡ got (item_of (uv_made st scans) (flat doubles value)) n }
 {
@@ -46,19 +44,27 @@ fn uv_given(st: ChemstationUvState, scans: Scans, value: f64, n: usize) -> Next
         mult_correction: st.mult_correction,
         stored_time: st.stored_time,
     };
-    Next::Given(record, State::Uv(state), n)
+    Ok(Given {
+        record,
+        state: State::Uv(state),
+        bytes: n,
+    })
 }
 
 // The point at a position, with the scans that are due after it.
-fn uv_point(st: ChemstationUvState, scans: Scans, s: &[u8], at: usize, last: bool) -> Next
+fn uv_point(
+    st: ChemstationUvState,
+    scans: Scans,
+    s: &[u8],
+    at: usize,
+    last: bool,
+) -> Result<Given, Stopped>
     requires nonzero { 0 < st.n_wvs_left.0 }
     requires at_in_bounds { at ≤ length s.now }
     ensures { answer_of result ≡ map_read (stepped (sum_of (State.Uv st))) (read_at last (uv_point st scans []) at s.now) }
 {
-    match delta_at(Endian::Little, s, at, last) {
-        DeltaAt::Read(d, n) => uv_given(st, scans, changed_by(st.cur_intensity, d), n),
-        DeltaAt::Stopped(z) => Next::Stopped(z),
-    }
+    let (d, n) = delta_at(Endian::Little, s, at, last)?;
+    uv_given(st, scans, changed_by(st.cur_intensity, d), n)
 }
 
 // A new scan, before its first point: a step behind it, with value 0.
@@ -90,27 +96,27 @@ fn uv_begun(
 }
 
 // A scan's head and its first point.
-fn uv_scan(st: ChemstationUvState, s: &[u8], last: bool) -> Next
+fn uv_scan(st: ChemstationUvState, s: &[u8], last: bool) -> Result<Given, Stopped>
     ensures { answer_of result ≡ map_read (stepped (sum_of (State.Uv st))) (read_at last (uv_scan st) 0 s.now) }
 {
     if s.len() < RANGE {
-        return Next::Stopped(cut(last));
+        return Err(cut(last));
     }
     let time = le_u32(s, 4);
     let start = le_u16(s, 8);
     let end = le_u16(s, 10);
     if start > end {
-        return Next::Stopped(Stopped::Refused(Refusal::UvStartAboveEnd));
+        return Err(Stopped::Refused(Refusal::UvStartAboveEnd));
     }
     if s.len() < STEP {
-        return Next::Stopped(cut(last));
+        return Err(cut(last));
     }
     let step = le_u16(s, 12);
     if step == 0 {
-        return Next::Stopped(Stopped::Refused(Refusal::UvStepZero));
+        return Err(Stopped::Refused(Refusal::UvStepZero));
     }
     if s.len() < HEAD {
-        return Next::Stopped(cut(last));
+        return Err(cut(last));
     }
     let begun = uv_begun(st, time, start, end, step);
     let scans = st.n_scans_left;
@@ -130,11 +136,11 @@ fn scans_left(st: ChemstationUvState) -> Scans
 }
 
 // The next record of UV.
-pub fn uv_next(st: ChemstationUvState, s: &[u8], last: bool) -> Next
+pub fn uv_next(st: ChemstationUvState, s: &[u8], last: bool) -> Result<Given, Stopped>
     ensures { answer_of result ≡ read last (rule_by (State.Uv st) (uv_rule st)) s.now }
 {
     if st.n_scans_left.0 == 0 {
-        return Next::Stopped(Stopped::Finished);
+        return Err(Stopped::Finished);
     }
     if st.n_wvs_left.0 == 0 {
         return uv_scan(st, s, last);

@@ -8,5 +8,5 @@ use Rattle.borrowed.proofs.next_at.Goals as goal
 
 pub overflow_add-result : goal.overflow_add-result
 overflow_add-result c =
-    let q = answered_at c.args.st c.args.last c.args.s.now c.args.at _ _ _ c.left_at.ensures c.next_record-next.ensures c.in-Given.is in
+    let q = answered_at c.args.st c.args.last c.args.s.now c.args.at _ _ _ c.left_at.ensures c.next_record-next.ensures c.in-Ok.is in
     omega (arith, taken_within c.args.last (rule c.args.st) (drop c.args.at c.args.s.now) q, length-drop c.args.at c.args.s.now)

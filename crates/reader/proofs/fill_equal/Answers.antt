@@ -25,19 +25,19 @@ slice_bounds-next_record-start c = omega (arith, c.loop-i.invariant.1.inside)
 pub slice_bounds-next_record-end : goal.slice_bounds-next_record-end
 slice_bounds-next_record-end c = omega (arith, c.loop-i.invariant.1.inside)
 
-pub returns-in-Stopped : goal.returns-in-Stopped
-returns-in-Stopped c =
-    let q = answered c.loop-i.cur c.args.last c.args.s.now c.loop-i.at _ _ c.next_record.ensures c.in-Stopped.is in
+pub returns-in-Err : goal.returns-in-Err
+returns-in-Err c =
+    let q = answered c.loop-i.cur c.args.last c.args.s.now c.loop-i.at _ _ c.next_record.ensures c.in-Err.is in
     rw c.requires (going_stops _ _ _ _ _ _ _ _ _ c.loop-i.invariant.1 (omega arith) _ _ refl q)
 
 pub overflow_add-at : goal.overflow_add-at
 overflow_add-at c =
-    let q = answered c.loop-i.cur c.args.last c.args.s.now c.loop-i.at _ _ c.next_record.ensures c.in-Given.is in
+    let q = answered c.loop-i.cur c.args.last c.args.s.now c.loop-i.at _ _ c.next_record.ensures c.in-Ok.is in
     omega (arith, taken_within c.args.last (rule c.loop-i.cur) (drop c.loop-i.at c.args.s.now) q, length-drop c.loop-i.at c.args.s.now, c.loop-i.invariant.1.inside, c.well_formed.1.0)
 
 pub loop-i-preserved : goal.loop-i-preserved
 loop-i-preserved c =
-    let q = answered c.loop-i.cur c.args.last c.args.s.now c.loop-i.at _ _ c.next_record.ensures c.in-Given.is in
+    let q = answered c.loop-i.cur c.args.last c.args.s.now c.loop-i.at _ _ c.next_record.ensures c.in-Ok.is in
     (c.loop-i.invariant.0, rw c.row_of-row.ensures (going_more _ _ _ _ _ _ _ _ _ c.loop-i.invariant.1 (omega arith) c.loop-i.invariant.0 _ _ _ q))
 
 pub returns : goal.returns

@@ -20,16 +20,16 @@ pub overflow_sub-out : goal.overflow_sub-out
 overflow_sub-out c = omega (arith, c.loop-out.invariant.1.put.fits, c.loop-out.invariant.1.put.same)
 
 -- the total before the loop is the one that was given
-pub returns-in-Stopped : goal.returns-in-Stopped
-returns-in-Stopped c =
-    let q = answered c.loop-out.cur c.args.last c.args.src.now c.loop-out.f _ _ c.next_record.ensures c.in-Stopped.is in
+pub returns-in-Err : goal.returns-in-Err
+returns-in-Err c =
+    let q = answered c.loop-out.cur c.args.last c.args.src.now c.loop-out.f _ _ c.next_record.ensures c.in-Err.is in
     logged_as c.start-sum.ensures (logging_end _ _ _ _ _ _ _ _ _ _ _ _ _ _ (summed _ _ _ _ _ _ _ (c.total_of.ensures ∙ totals _ _ c.loop-out.invariant.2) c.loop-out.invariant.1) (logged_stops _ _ _ _ (omega arith) q))
 
 pub loop-out-preserved : goal.loop-out-preserved
 loop-out-preserved c =
-    let r = c.in-Given.r in
+    let r = c.in-Ok.given.«record» in
     let t = c.loop-out.invariant.0 in
-    let q = answered c.loop-out.cur c.args.last c.args.src.now c.loop-out.f _ _ c.next_record.ensures c.in-Given.is in (
+    let q = answered c.loop-out.cur c.args.last c.args.src.now c.loop-out.f _ _ c.next_record.ensures c.in-Ok.is in (
       plus t (unscaled_of r),
       logging_more _ _ _ _ _ _ _ _ _ _ _ _ _ _ _ _ _ _ c.loop-out.invariant.1 (omega arith) q c.put_record-a.ensures.put,
       subst (λ (s : Tally). StandsFor s (plus t (unscaled_of r))) (sym c.add-sum.ensures)
@@ -44,7 +44,7 @@ overflow_add-count c = omega (arith, (loop-out-preserved c).1.few, c.put_record-
 
 pub loop-out-smaller : goal.loop-out-smaller
 loop-out-smaller c =
-    omega (arith, c.put_record-a.ensures.put.next, c.put_record-a.ensures.put.same, c.put_record-a.ensures.put.fits, line_some c.in-Given.r)
+    omega (arith, c.put_record-a.ensures.put.next, c.put_record-a.ensures.put.same, c.put_record-a.ensures.put.fits, line_some c.in-Ok.given.«record»)
 
 pub returns : goal.returns
 returns c =
