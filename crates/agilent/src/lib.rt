@@ -5,7 +5,7 @@ ghost use Rattle.std.specs.Prelude.{◌≡◌, ◌<◌};
 ghost use Rattle.rules.specs.Rule.{read};
 ghost use Rattle.agilent.specs.Header.{kind_number, Decodes, size_of, size_rule, size_read};
 
-use common::be_u32;
+use common::Number;
 use error::{Refusal, Stopped, lacking};
 
 // The kinds of run files, with document 01's numbers. A file does not say its own.
@@ -54,7 +54,7 @@ pub fn read_agilent_header(kind: u8, s: &[u8], last: bool) -> Result<usize, Stop
     if s.len() < 268 {
         return Err(lacking(last, false));
     }
-    let word = be_u32(s, 264);
+    let word = u32::be_at(s, 264);
     if word == 0 {
         return Err(Refusal::SizeWordZero.into());
     }

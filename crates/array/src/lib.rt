@@ -7,7 +7,7 @@ ghost use Rattle.streams.specs.Told.{told};
 ghost use Rattle.streams.specs.Next.{sum_of, stepped, rule_by, answer_of};
 ghost use Rattle.array.specs.Array.{array_made, array_rule};
 
-use common::{le_u32, le_u64};
+use common::Number;
 use error::{Stopped, cut};
 use floats::{f64_from_bits, f64_from_f32_bits};
 use streams::{ChemstationArrayRecordType, ChemstationArrayState, Given, Record, Scans, State};
@@ -54,13 +54,13 @@ pub fn array_next(st: ChemstationArrayState, s: &[u8], last: bool) -> Result<Giv
             if s.len() < 4 {
                 return Err(cut(last));
             }
-            array_given(st, f64_from_f32_bits(le_u32(s, 0)), 4)
+            array_given(st, f64_from_f32_bits(u32::le_at(s, 0)), 4)
         }
         ChemstationArrayRecordType::Float64Array => {
             if s.len() < 8 {
                 return Err(cut(last));
             }
-            array_given(st, f64_from_bits(le_u64(s, 0)), 8)
+            array_given(st, f64_from_bits(u64::le_at(s, 0)), 8)
         }
     }
 }

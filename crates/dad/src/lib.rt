@@ -7,9 +7,9 @@ ghost use Rattle.streams.specs.Told.{told, change_of};
 ghost use Rattle.streams.specs.Next.{sum_of, stepped, rule_by, answer_of};
 ghost use Rattle.dad.specs.Dad.{width_of, dad_made, dad_point, dad_scan, dad_rule};
 
-use common::{Endian, le_u16, le_u32};
+use common::{Endian, Number};
 use error::{Stopped, cut};
-use floats::{f64_from_u16, f64_from_u32, minutes_of};
+use floats::minutes_of;
 use streams::{
     Bytes, ChemstationDadState, Delta, Given, Record, Scans, State, changed_by, delta_at,
 };
@@ -84,24 +84,24 @@ fn dad_scan(st: ChemstationDadState, s: &[u8], last: bool) -> Result<Given, Stop
     if s.len() < TYPE {
         return Err(cut(last));
     }
-    if le_u16(s, 0) != 67 {
+    if u16::le_at(s, 0) != 67 {
         return Err(Stopped::Finished);
     }
     if s.len() < HEAD {
         return Err(cut(last));
     }
-    let bytes = saturating_sub(le_u16(s, 2) as usize, HEAD);
+    let bytes = saturating_sub(u16::le_at(s, 2) as usize, HEAD);
     if bytes == 0 {
         return Err(Stopped::Finished);
     }
-    let stored_time = le_u32(s, 4);
+    let stored_time = u32::le_at(s, 4);
     let state = ChemstationDadState {
         n_scans_left: Scans(st.n_scans_left.0 - 1),
         n_bytes_left: Bytes(bytes),
-        cur_time: f64_from_u32(stored_time),
+        cur_time: f64::from(stored_time),
         cur_intensity: 0.0,
-        cur_wv: f64_from_u16(le_u16(s, 8)),
-        wv_step: f64_from_u16(le_u16(s, 12)),
+        cur_wv: f64::from(u16::le_at(s, 8)),
+        wv_step: f64::from(u16::le_at(s, 12)),
         stored_time,
     };
     dad_point(state, s, HEAD, last)

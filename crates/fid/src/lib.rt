@@ -8,9 +8,8 @@ ghost use Rattle.streams.specs.Told.{told};
 ghost use Rattle.streams.specs.Next.{sum_of, item_of, stepped, rule_by, answer_of};
 ghost use Rattle.fid.specs.Fid.{fid_made, fid_rule};
 
-use common::{be_i16, be_i32, be_u16};
+use common::Number;
 use error::{Stopped, cut, ended};
-use floats::{f64_from_i16, f64_from_i32, f64_from_u16};
 use streams::{ChemstationFidState, Given, State, trace_point};
 
 // Bytes of a delta, and of a restart: its mark, high and low.
@@ -43,7 +42,7 @@ fn fid_given(st: ChemstationFidState, slope: f64, value: f64, n: usize) -> Resul
 fn fid_restart(st: ChemstationFidState, high: i32, low: u16) -> Result<Given, Stopped>
     ensures { answer_of result ≡ got (stepped (sum_of (State.Fid st)) (told (fid_made st) (restarts high low ∷ []))) 8 }
 {
-    let intensity = f64_from_i32(high) * 65534.0 + f64_from_u16(low);
+    let intensity = f64::from(high) * 65534.0 + f64::from(low);
     fid_given(st, 0.0, intensity, RESTART)
 }
 
@@ -51,7 +50,7 @@ fn fid_restart(st: ChemstationFidState, high: i32, low: u16) -> Result<Given, St
 fn fid_slope(st: ChemstationFidState, v: i16) -> Result<Given, Stopped>
     ensures { answer_of result ≡ got (stepped (sum_of (State.Fid st)) (told (fid_made st) (slopes v ∷ []))) 2 }
 {
-    let delta = st.cur_delta + f64_from_i16(v);
+    let delta = st.cur_delta + f64::from(v);
     let intensity = st.cur_intensity + delta;
     fid_given(st, delta, intensity, DELTA)
 }
@@ -66,12 +65,12 @@ pub fn fid_next(st: ChemstationFidState, s: &[u8], last: bool) -> Result<Given, 
     if s.len() < DELTA {
         return Err(cut(last));
     }
-    let v = be_i16(s, 0);
+    let v = i16::be_at(s, 0);
     if v != 32767 {
         return fid_slope(st, v);
     }
     if s.len() < RESTART {
         return Err(cut(last));
     }
-    fid_restart(st, be_i32(s, 2), be_u16(s, 6))
+    fid_restart(st, i32::be_at(s, 2), u16::be_at(s, 6))
 }

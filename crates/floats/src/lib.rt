@@ -1,42 +1,11 @@
-// Doubles: from integers and from bit patterns, to bit patterns, a stored time in minutes, and a scan quotient cut to a count.
+// Doubles: from bit patterns and to them, a stored time in minutes, and a scan quotient cut to a count.
 // Every function has an answer for every input, NaNs and infinities included.
 #![tactic(auto)]
 
-ghost use Rattle.std.specs.Prelude.{◌≡◌, pos, from_bits};
+ghost use Rattle.std.specs.Prelude.{◌≡◌, from_bits};
 ghost use Rattle.std.specs.Float.{binary32, binary64};
-ghost use Rattle.std.specs.Float.Ieee.{of_int};
 ghost use Rattle.floats.specs.Doubles.{minutes, bits_of, scan_count_of};
 ghost use Rattle.floats.specs.Wholes.{ExactSums};
-
-// ---- Rust's f64::from
-
-// An i16 as a double: exact.
-pub fn f64_from_i16(v: i16) -> f64
-    ensures { result ≡ of_int binary64 v }
-{
-    v as f64
-}
-
-// An i32 as a double: exact.
-pub fn f64_from_i32(v: i32) -> f64
-    ensures { result ≡ of_int binary64 v }
-{
-    v as f64
-}
-
-// A u16 as a double: exact.
-pub fn f64_from_u16(v: u16) -> f64
-    ensures { result ≡ of_int binary64 (pos v) }
-{
-    v as f64
-}
-
-// A u32 as a double: exact.
-pub fn f64_from_u32(v: u32) -> f64
-    ensures { result ≡ of_int binary64 (pos v) }
-{
-    v as f64
-}
 
 // ---- times
 
@@ -71,45 +40,27 @@ pub fn f64_from_f32_bits(bits: u32) -> f64
     }
 }
 
-// What is printed of a double: a NaN's bits are free.
-#[derive(Clone, Copy)]
-pub enum Bits {
-    Nan,
-    Pattern(u64),
-}
-
-// A double's bits, or that it is a NaN.
-pub fn f64_to_bits(x: f64) -> Bits
+// A double's bits, as they are printed. A NaN has none: its bits are free.
+pub fn f64_to_bits(x: f64) -> Option<u64>
     ensures { result ≡ bits_of x }
 {
-    if x != x {
-        Bits::Nan
-    } else {
-        Bits::Pattern(f64::to_bits(x))
-    }
+    if x.is_nan() { None } else { Some(x.to_bits()) }
 }
 
 // ---- the scans of an array
 
-#[derive(Clone, Copy)]
-pub enum ScanCount {
-    // 2^53 or more
-    TooMany,
-    Count(usize),
-}
-
-// How many scans a quotient makes: 1 and as many whole steps as fit.
-pub fn scan_count(quotient: f64) -> ScanCount
+// How many scans a quotient makes, 1 and as many whole steps as fit, where it is below 2^53.
+pub fn scan_count(quotient: f64) -> Option<usize>
     ensures { result ≡ scan_count_of quotient }
 {
     if quotient >= 9007199254740992.0 {
-        return ScanCount::TooMany;
+        return None;
     }
     if quotient >= 1.0 {
         let whole = std::num::truncating_f64_to_u64(quotient);
-        return ScanCount::Count(1 + whole as usize);
+        return Some(1 + whole as usize);
     }
-    ScanCount::Count(1)
+    Some(1)
 }
 
 // ---- sums of whole numbers

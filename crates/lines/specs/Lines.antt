@@ -1,9 +1,7 @@
 -- The lines of a log: document 01, 'The log program', and request 1. A line is a letter and fields; a space ends a field, a line feed the last.
-use Rattle.std.specs.Prelude.{ℕ, List, [], ◌∷◌, ◌++◌, Float}
+use Rattle.std.specs.Prelude.{ℕ, List, [], ◌∷◌, ◌++◌, Float, Option, Some, None}
 use Rattle.rules.specs.Rule.{Stop, refused, finished, more_bytes}
 use Rattle.floats.specs.Doubles.{bits_of}
-use Rattle.floats.specs.declared.Bits.{Bits}
-use Rattle.floats.specs.declared.Bits.TheVariants.{Nan, Pattern}
 use Rattle.streams.specs.declared.Record.{Record}
 use Rattle.streams.specs.declared.Record.TheVariants.{Trace, Mass, Spectrum}
 use Rattle.sums.specs.declared.Total.{Total}
@@ -11,9 +9,9 @@ use Rattle.sums.specs.declared.Total.TheVariants.{Absent, Amount, Refused}
 use Rattle.digits.specs.Numbers.{digits, field, number, signed_number}
 
 -- 'as 16 hexadecimal digits of the bits, or `nan`'
-unfoldable pub bits_text : Bits → List ℕ
-bits_text Nan = 110 ∷ 97 ∷ 110 ∷ []
-bits_text (Pattern n) = digits 16 16 n
+unfoldable pub bits_text : Option ℕ → List ℕ
+bits_text None = 110 ∷ 97 ∷ 110 ∷ []
+bits_text (Some n) = digits 16 16 n
 
 abbrev pub double_text : Float → ℕ → List ℕ
 double_text x sep = field (bits_text (bits_of x)) sep

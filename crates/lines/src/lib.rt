@@ -8,7 +8,7 @@ ghost use Rattle.lines.specs.Left.{behind_text, more_text, scan_text, left_line,
 ghost use Rattle.lines.specs.Lines.{double_text, time_text, values_text, point_line, record_line, header_line, total_line, answer_text, end_line};
 
 use error::Stopped;
-use floats::Bits;
+use floats::f64_to_bits;
 use streams::Record;
 use sums::Total;
 
@@ -18,12 +18,12 @@ pub fn put_double(out: &mut [u8], at: usize, x: f64, sep: u8) -> usize
     ensures put { Put (double_text x sep) at out.old result out.new }
     ensures upper_bound { result ≤ at + 17 }
 {
-    match floats::f64_to_bits(x) {
-        Bits::Pattern(n) => {
+    match f64_to_bits(x) {
+        Some(n) => {
             let a = digits::put_bits(out, at, n);
             digits::put_byte(out, a, sep)
         }
-        Bits::Nan => {
+        None => {
             let a = digits::put_byte(out, at, b'n');
             let b = digits::put_byte(out, a, b'a');
             let c = digits::put_byte(out, b, b'n');

@@ -1,4 +1,5 @@
 -- What is known of a header that was opened: its kind, the bytes that say its description, an array's size; and no header is 'finished'.
+use Rattle.std.specs.Prelude.{Option, Some, None}
 use mathlib.Core.Path.{◌≡◌, refl, sym, ap, ◌∙◌}
 use mathlib.Core.Bool.{Bool, true, false, and-eq-true_iff}
 use mathlib.Core.List.{List, [], ◌∷◌}
@@ -13,8 +14,6 @@ use Rattle.error.specs.Number.{stop_of}
 use Rattle.error.specs.declared.Stopped.{Stopped}
 use Rattle.common.specs.Bytes.{be, part}
 use Rattle.floats.specs.Doubles.{scan_count_of}
-use Rattle.floats.specs.declared.ScanCount.{ScanCount}
-use Rattle.floats.specs.declared.ScanCount.TheVariants.{TooMany, Count}
 use Rattle.trim.specs.declared.Trimmed.{Trimmed}
 use Rattle.trim.specs.declared.Trimmed.TheVariants.{NotUtf8, At}
 use Rattle.agilent.specs.Header.{known, header_rule}
@@ -69,9 +68,9 @@ any_text h (Utf16 start) = giving tt
 
 -- ---- the rule of Open
 
-count : {Q : Type 0} → Q → (x : ScanCount) → Orderly true (λ _. Q) (count_rule x)
-count q TooMany = refusing
-count q (Count n) = giving q
+count : {Q : Type 0} → Q → (x : Option ℕ) → Orderly true (λ _. Q) (count_rule x)
+count q None = refusing
+count q (Some n) = giving q
 
 scans_by_lem : (b : Bool) (kind : ℕ) (d : ChemstationMetadata) (h : List ℕ) → eqb kind 6 ≡ b → Orderly true (λ _. kind ≡ 6 → 4126 ≤ length h) (scans_rule kind d h)
 unfolding array_scans

@@ -1,4 +1,5 @@
 -- Open: the header's bytes, then what is left of its rule, by the tests that code makes.
+use Rattle.std.specs.Prelude.{Option}
 use mathlib.Core.Path.{◌≡◌, refl, sym, ap, ap₂, ◌∙◌, subst}
 use mathlib.Core.Bool.{Bool}
 use mathlib.Core.List.{List}
@@ -13,7 +14,6 @@ use Rattle.rules.proofs.Laws.{read_then, read_then_lem}
 use Rattle.rules.proofs.Places.{at_gives}
 use Rattle.common.specs.Bytes.{be, part}
 use Rattle.floats.specs.Doubles.{scan_count_of}
-use Rattle.floats.specs.declared.ScanCount.{ScanCount}
 use Rattle.agilent.specs.Header.{header_rule}
 use Rattle.agilent.proofs.Checks.{passes, fails}
 use Rattle.layouts.specs.Table.{look, minima, texts}
@@ -44,7 +44,7 @@ module _ (d : ChemstationMetadata) (h : List ℕ) where
   unfolding array_scans ◌>>=◌
   array_small l = ap (λ r. r >>= λ n. gives (record { bytes = h; says = d; scans = n; step = step_of h })) (fails 9 (count_rule (scan_count_of (quotient_of d h))) (lt-leb 4126 _ l))
 
-  pub array_counted : 4126 ≤ length h → {step : Float} → step ≡ step_of h → {x : ScanCount} → x ≡ scan_count_of (div binary64 (sub binary64 d.end_time d.start_time) step) →
+  pub array_counted : 4126 ≤ length h → {step : Float} → step ≡ step_of h → {x : Option ℕ} → x ≡ scan_count_of (div binary64 (sub binary64 d.end_time d.start_time) step) →
       after_description 6 h d ≡ (count_rule x >>= λ n. gives (record { bytes = h; says = d; scans = n; step = step }))
   unfolding array_scans quotient_of
   array_counted l s q = rw (passes 9 (count_rule (scan_count_of (quotient_of d h))) (le-leb 4126 _ l), q, s) refl

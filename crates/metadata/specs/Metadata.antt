@@ -1,13 +1,11 @@
 -- What a header says, and the checks on it: document 01, 'Header' and 'Open' (FORMAT 4.3 to 4.6).
-use Rattle.std.specs.Prelude.{◌≡◌, cond, List, [], ◌∷◌, map, ℕ, leb, ltb, eqb, length, take, replicate, Float}
+use Rattle.std.specs.Prelude.{◌≡◌, cond, List, [], ◌∷◌, map, ℕ, leb, ltb, eqb, length, take, replicate, Float, Option, Some, None}
 use Rattle.std.specs.Float.{binary32, binary64}
 use Rattle.std.specs.Float.Ieee.{sub, div, of_int, of_bits}
 use Rattle.rules.specs.Rule.{Rule, gives, refuses, ◌>>=◌, ◌>>◌, map_rule, Read, got, stops}
 use Rattle.error.specs.Number.{stop_of}
 use Rattle.common.specs.Bytes.{be, signed, part}
 use Rattle.floats.specs.Doubles.{double, minutes, scan_count_of}
-use Rattle.floats.specs.declared.ScanCount.{ScanCount}
-use Rattle.floats.specs.declared.ScanCount.TheVariants.{TooMany, Count}
 use Rattle.layouts.specs.Table.{Entry, look, minima, texts, offsets, multipliers, clocks}
 use Rattle.agilent.specs.Header.{check, header_rule}
 use Rattle.pascal.specs.Texts.{Place, text_rule}
@@ -87,9 +85,9 @@ unfoldable pub quotient_of : ChemstationMetadata → List ℕ → Float
 quotient_of d h = div binary64 (sub binary64 d.end_time d.start_time) (step_of h)
 
 -- '10, scan quotient 2^53 or more'
-abbrev pub count_rule : ScanCount → Rule ℕ
-count_rule TooMany = refuses 10
-count_rule (Count n) = gives n
+abbrev pub count_rule : Option ℕ → Rule ℕ
+count_rule None = refuses 10
+count_rule (Some n) = gives n
 
 -- 'Kind 6 then: 9, size below 4,126; 10, ..': the scans of an array
 unfoldable pub array_scans : ChemstationMetadata → List ℕ → Rule ℕ

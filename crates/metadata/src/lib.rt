@@ -11,11 +11,9 @@ ghost use Rattle.metadata.specs.Metadata.{time_at, double_at, described_by, blan
 ghost use Rattle.metadata.specs.Remaining.{after_minimum, OpensWhole};
 
 use agilent::read_agilent_header;
-use common::{be_i32, be_u16, be_u32, be_u64};
+use common::Number;
 use error::{Refusal, Stopped};
-use floats::{
-    ScanCount, f64_from_bits, f64_from_f32_bits, f64_from_i32, f64_from_u16, minutes_of, scan_count,
-};
+use floats::{f64_from_bits, f64_from_f32_bits, minutes_of, scan_count};
 use layouts::{Clock, Layout, field_in, layout_of};
 use pascal::{TextPlace, text_place};
 
@@ -63,8 +61,8 @@ fn time_at(h: &[u8], clock: Clock, at: usize) -> f64
 {
     match clock {
         Clock::Nowhere => 0.0,
-        Clock::Whole => minutes_of(f64_from_i32(be_i32(h, at))),
-        Clock::Single => minutes_of(f64_from_f32_bits(be_u32(h, at))),
+        Clock::Whole => minutes_of(f64::from(i32::be_at(h, at))),
+        Clock::Single => minutes_of(f64_from_f32_bits(u32::be_at(h, at))),
     }
 }
 
@@ -75,7 +73,7 @@ fn double_at(h: &[u8], at: usize, other: f64) -> f64
     if at == 0 {
         return other;
     }
-    f64_from_bits(be_u64(h, at))
+    f64_from_bits(u64::be_at(h, at))
 }
 
 // ---- the description
@@ -95,9 +93,9 @@ fn described(
     ChemstationMetadata {
         edition,
         size: h.len(),
-        sequence: be_u16(h, 252),
-        vial: be_u16(h, 254),
-        replicate: be_u16(h, 256),
+        sequence: u16::be_at(h, 252),
+        vial: u16::be_at(h, 254),
+        replicate: u16::be_at(h, 256),
         start_time: time_at(h, clock, 282),
         end_time: time_at(h, clock, 286),
         offset_correction: double_at(h, layout.offset, 0.0),
@@ -144,8 +142,8 @@ fn time_step(h: &[u8]) -> f64
     requires { 4126 ≤ length h.now }
     ensures { result ≡ step_of h.now }
 {
-    let first = f64_from_u16(be_u16(h, 4122));
-    let second = f64_from_u16(be_u16(h, 4124));
+    let first = f64::from(u16::be_at(h, 4122));
+    let second = f64::from(u16::be_at(h, 4124));
     first / second / 60.0
 }
 
@@ -158,8 +156,8 @@ fn open_array(d: ChemstationMetadata, h: &[u8]) -> OpenedHeader
     }
     let time_step = time_step(h);
     match scan_count((d.end_time - d.start_time) / time_step) {
-        ScanCount::TooMany => not_opened(Stopped::Refused(Refusal::TooManyScans)),
-        ScanCount::Count(scans) => OpenedHeader {
+        None => not_opened(Stopped::Refused(Refusal::TooManyScans)),
+        Some(scans) => OpenedHeader {
             answer: Opened::Header {
                 size: h.len(),
                 scans,
@@ -181,7 +179,7 @@ fn scans_at(kind: u8, h: &[u8]) -> usize
     if kind == 3 {
         return 0;
     }
-    be_u32(h, 278) as usize
+    u32::be_at(h, 278) as usize
 }
 
 // Opens a header h that says d.
@@ -236,7 +234,7 @@ fn from_header(kind: u8, h: &[u8]) -> OpenedHeader
     requires { 512 ≤ length h.now }
     ensures { OpensWhole h.now (after_bytes kind h.now) result }
 {
-    let edition = be_u32(h, 248);
+    let edition = u32::be_at(h, 248);
     let layout = layout_of(edition);
     if layout.minimum == 0 {
         return not_opened(Stopped::Refused(Refusal::UnknownEdition));

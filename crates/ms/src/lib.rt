@@ -9,9 +9,9 @@ ghost use Rattle.floats.specs.Wholes.{Sum, doubles, flat};
 ghost use Rattle.streams.specs.Next.{item_of, stepped, rule_by, answer_of};
 ghost use Rattle.ms.specs.Ms.{ms_made, ms_point, ms_scans, ms_rule};
 
-use common::{be_u16, be_u32};
+use common::Number;
 use error::{Refusal, Stopped, cut};
-use floats::{f64_from_u16, f64_from_u32, minutes_of};
+use floats::minutes_of;
 use streams::{ChemstationMsState, Given, Points, Record, Scans, State};
 
 // Bytes of a scan's count, and of its head: count, time, and 12 that are passed over.
@@ -33,7 +33,7 @@ fn ms_intensity(raw: u16) -> f64
 {
     let base = raw as u32 % 16384;
     let exponent = raw as u32 / 16384;
-    f64_from_u32(base << (3 * exponent))
+    f64::from(base << (3 * exponent))
 }
 
 // The record of a point, and the state after it.
@@ -50,7 +50,7 @@ fn ms_given(
 {
     let record = Record::Mass {
         time,
-        mz: f64_from_u16(mz) / 20.0,
+        mz: f64::from(mz) / 20.0,
         unscaled: value,
         scaled: value,
         minutes: stored / 60000,
@@ -86,8 +86,8 @@ fn ms_point(
     if s.len() - at < POINT {
         return Err(cut(last));
     }
-    let mz = be_u16(s, at);
-    let value = ms_intensity(be_u16(s, at + 2));
+    let mz = u16::be_at(s, at);
+    let value = ms_intensity(u16::be_at(s, at + 2));
     if points.0 != 1 {
         return ms_given(
             scans,
@@ -121,8 +121,8 @@ fn ms_scan(scans: Scans, points: Points, s: &[u8], at: usize, last: bool) -> Res
     if s.len() - at < HEAD {
         return Err(cut(last));
     }
-    let stored = be_u32(s, at + COUNT);
-    let time = minutes_of(f64_from_u32(stored));
+    let stored = u32::be_at(s, at + COUNT);
+    let time = minutes_of(f64::from(stored));
     ms_point(scans, points, time, stored, s, at + HEAD, last)
 }
 
@@ -136,7 +136,7 @@ fn ms_scans(due: Scans, s: &[u8], last: bool) -> Result<Given, Stopped>
         if s.len() - at < COUNT {
             return Err(cut(last));
         }
-        let count = be_u16(s, at);
+        let count = u16::be_at(s, at);
         if count < 14 {
             return Err(Stopped::Refused(Refusal::MsCountTooSmall));
         }

@@ -7,7 +7,7 @@ ghost use Rattle.floats.specs.Wholes.{doubles, flat};
 ghost use Rattle.streams.specs.Next.{sum_of, item_of, stepped, rule_by, answer_of};
 ghost use Rattle.mwd.specs.Mwd.{mwd_made, mwd_point, mwd_rule};
 
-use common::{Endian, be_u16};
+use common::{Endian, Number};
 use error::{Stopped, cut, ended};
 use streams::{ChemstationMwdState, Given, Points, State, changed_by, delta_at, trace_point};
 
@@ -71,7 +71,7 @@ pub fn mwd_next(st: ChemstationMwdState, s: &[u8], last: bool) -> Result<Given, 
         return Err(cut(last));
     }
     // the top 4 bits are no part of the count
-    let count = be_u16(s, 0) % 4096;
+    let count = u16::be_at(s, 0) % 4096;
     if count == 0 {
         return Err(Stopped::Finished);
     }

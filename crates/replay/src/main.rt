@@ -3,6 +3,7 @@
 
 ghost use Rattle.std.specs.Prelude.{◌+◌, ◌*◌, ◌≤◌, ◌<◌, ◌≡◌, length};
 
+use common::Number;
 use error::Stopped;
 use fetch::{Fetched, fetch_text};
 use metadata::{ChemstationMetadata, Opened};
@@ -310,7 +311,7 @@ fn next_frame<R: Read>(input: &mut R, buf: &mut [u8]) -> Frame
             bytes: 0,
         };
     }
-    let n = common::be_u32(&head, 0) as usize;
+    let n = u32::be_at(&head, 0) as usize;
     if n > buf.len() {
         return Frame {
             status: Status::TooLong,

@@ -1,4 +1,5 @@
 -- How long the lines of a log are at most, in bytes.
+use Rattle.std.specs.Prelude.{Option, Some, None}
 use mathlib.Core.Path.{◌≡◌}
 use mathlib.Core.Bool.{Bool, true, false, cond}
 use mathlib.Core.List.{List, [], ◌∷◌, ◌++◌}
@@ -14,8 +15,6 @@ use Rattle.sums.specs.declared.Total.TheVariants.{Absent, Amount, Refused}
 use Rattle.rules.specs.Rule.{Stop, refused, finished, more_bytes}
 use Rattle.metadata.specs.Metadata.{Header}
 use Rattle.floats.specs.Doubles.{bits_of}
-use Rattle.floats.specs.declared.Bits.{Bits}
-use Rattle.floats.specs.declared.Bits.TheVariants.{Nan, Pattern}
 use Rattle.streams.specs.declared.State.{State}
 use Rattle.streams.specs.declared.Record.{Record}
 use Rattle.streams.specs.declared.Record.TheVariants.{Trace, Mass, Spectrum}
@@ -34,10 +33,10 @@ number_long : (n sep : ℕ) → length (number n sep) ≤ 21
 unfolding decimal
 number_long n sep = omega (arith, length-append (decimal n) (sep ∷ []), length_digits 10 (places 19 n) n, places_low 19 n)
 
-bits_long : (b : Bits) → length (bits_text b) ≤ 16
+bits_long : (b : Option ℕ) → length (bits_text b) ≤ 16
 unfolding bits_text
-bits_long Nan = omega arith
-bits_long (Pattern n) = omega (arith, length_digits 16 16 n)
+bits_long None = omega arith
+bits_long (Some n) = omega (arith, length_digits 16 16 n)
 
 double_long : (x : Float) (sep : ℕ) → length (double_text x sep) ≤ 17
 double_long x sep = omega (arith, length-append (bits_text (bits_of x)) (sep ∷ []), bits_long (bits_of x))

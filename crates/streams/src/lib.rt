@@ -9,9 +9,8 @@ ghost use Rattle.streams.specs.Changes.{changed};
 ghost use Rattle.streams.specs.Next.{atlas_of, unscaled_of};
 ghost use Rattle.streams.specs.Told.{corrected, delta, change_of, delta_read};
 
-use common::{Endian, i16_in, i32_in};
+use common::{Endian, Number};
 use error::Stopped;
-use floats::{f64_from_i16, f64_from_i32};
 
 // Counts still due, never one for another.
 #[derive(Clone, Copy)]
@@ -224,14 +223,14 @@ pub fn delta_at(order: Endian, s: &[u8], at: usize, last: bool) -> Result<(Delta
     if s.len() - at < 2 {
         return Err(error::cut(last));
     }
-    let v = i16_in(order, s, at);
+    let v = i16::in_order(order, s, at);
     if v != -32768 {
         return Ok((Delta::By(v), at + 2));
     }
     if s.len() - at < 6 {
         return Err(error::cut(last));
     }
-    Ok((Delta::Absolute(i32_in(order, s, at + 2)), at + 6))
+    Ok((Delta::Absolute(i32::in_order(order, s, at + 2)), at + 6))
 }
 
 // The value after a delta.
@@ -239,7 +238,7 @@ pub fn changed_by(value: f64, d: Delta) -> f64
     ensures { result ≡ (changed doubles (flat doubles value) (change_of d)).value }
 {
     match d {
-        Delta::By(v) => value + f64_from_i16(v),
-        Delta::Absolute(z) => f64_from_i32(z),
+        Delta::By(v) => value + f64::from(v),
+        Delta::Absolute(z) => f64::from(z),
     }
 }

@@ -7,9 +7,9 @@ ghost use Rattle.floats.specs.Wholes.{doubles, flat};
 ghost use Rattle.streams.specs.Next.{sum_of, item_of, stepped, rule_by, answer_of};
 ghost use Rattle.uv.specs.Uv.{uv_made, uv_point, uv_begun, uv_scan, uv_left, uv_rule};
 
-use common::{Endian, le_u16, le_u32};
+use common::{Endian, Number};
 use error::{Refusal, Stopped, cut};
-use floats::{f64_from_u16, f64_from_u32, minutes_of};
+use floats::minutes_of;
 use streams::{ChemstationUvState, Given, Points, Record, Scans, State, changed_by, delta_at};
 
 // Bytes of a scan's head: 4 that are passed over, time, start and end; then its step; then 8 more that are passed over.
@@ -81,12 +81,12 @@ fn uv_begun(
 {
     let n_scans_left = st.n_scans_left;
     let points = (end - start) / step;
-    let wv_step = f64_from_u16(step) / 20.0;
-    let cur_wv = f64_from_u16(start) / 20.0 - wv_step;
+    let wv_step = f64::from(step) / 20.0;
+    let cur_wv = f64::from(start) / 20.0 - wv_step;
     ChemstationUvState {
         n_scans_left,
         n_wvs_left: Points(points as usize + 1),
-        cur_time: minutes_of(f64_from_u32(time)),
+        cur_time: minutes_of(f64::from(time)),
         cur_intensity: 0.0,
         cur_wv,
         wv_step,
@@ -102,16 +102,16 @@ fn uv_scan(st: ChemstationUvState, s: &[u8], last: bool) -> Result<Given, Stoppe
     if s.len() < RANGE {
         return Err(cut(last));
     }
-    let time = le_u32(s, 4);
-    let start = le_u16(s, 8);
-    let end = le_u16(s, 10);
+    let time = u32::le_at(s, 4);
+    let start = u16::le_at(s, 8);
+    let end = u16::le_at(s, 10);
     if start > end {
         return Err(Stopped::Refused(Refusal::UvStartAboveEnd));
     }
     if s.len() < STEP {
         return Err(cut(last));
     }
-    let step = le_u16(s, 12);
+    let step = u16::le_at(s, 12);
     if step == 0 {
         return Err(Stopped::Refused(Refusal::UvStepZero));
     }

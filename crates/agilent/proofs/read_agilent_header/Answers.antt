@@ -24,23 +24,23 @@ returns-then-word-eq0 c =
 
 pub returns-then-size-lt512 : goal.returns-then-size-lt512
 returns-then-size-lt512 c =
-    let z = c.header_size-size.ensures ∙ ap₂ size_of c.in_ok-kind.ensures c.be_u32-word.ensures in
+    let z = c.header_size-size.ensures ∙ ap₂ size_of c.in_ok-kind.ensures c.be_at-word.ensures in
     ap (λ z. stops (stop_of z)) c.into-then-size-lt512.ensures
     ∙ sym (size_small c.args.kind c.args.last c.args.s.now (is_known _ c.in_ok-kind.ensures) (omega arith) (omega arith) (omega arith))
 
 pub returns-then-size-gt20000 : goal.returns-then-size-gt20000
 returns-then-size-gt20000 c =
-    let z = c.header_size-size.ensures ∙ ap₂ size_of c.in_ok-kind.ensures c.be_u32-word.ensures in
+    let z = c.header_size-size.ensures ∙ ap₂ size_of c.in_ok-kind.ensures c.be_at-word.ensures in
     ap (λ z. stops (stop_of z)) c.into-then-size-gt20000.ensures
     ∙ sym (size_large c.args.kind c.args.last c.args.s.now (is_known _ c.in_ok-kind.ensures) (omega arith) (omega arith) (omega arith))
 
 pub returns-then-s-size : goal.returns-then-s-size
 returns-then-s-size c =
-    let z = c.header_size-size.ensures ∙ ap₂ size_of c.in_ok-kind.ensures c.be_u32-word.ensures in
+    let z = c.header_size-size.ensures ∙ ap₂ size_of c.in_ok-kind.ensures c.be_at-word.ensures in
     ap stops c.lacking-then-s-size.ensures
     ∙ sym (size_cut c.args.kind c.args.last c.args.s.now (is_known _ c.in_ok-kind.ensures) (omega arith) (omega arith) (omega arith) (omega arith) (omega arith))
 
 pub returns-else-s-size : goal.returns-else-s-size
 returns-else-s-size c =
-    let z = c.header_size-size.ensures ∙ ap₂ size_of c.in_ok-kind.ensures c.be_u32-word.ensures in
+    let z = c.header_size-size.ensures ∙ ap₂ size_of c.in_ok-kind.ensures c.be_at-word.ensures in
     ap₂ got z z ∙ sym (size_whole c.args.kind c.args.last c.args.s.now (is_known _ c.in_ok-kind.ensures) (omega arith) (omega arith) (omega arith) (omega arith) (omega arith))

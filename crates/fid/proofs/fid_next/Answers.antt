@@ -26,21 +26,21 @@ returns-then-s-lt-DELTA c =
 
 pub returns-then-v-ne32767 : goal.returns-then-v-ne32767
 returns-then-v-ne32767 c =
-    let v = is_no_int w16 32767 c.be_i16-v.ensures refl c.if-v-ne32767.true in
-    let back : to_z w16 (of_z w16 c.be_i16-v.result) ≡ c.be_i16-v.result = search rules in
+    let v = is_no_int w16 32767 c.be_at-v.ensures refl c.if-v-ne32767.true in
+    let back : to_z w16 (of_z w16 c.be_at-v.result) ≡ c.be_at-v.result = search rules in
     c.fid_slope.ensures
-    ∙ ap (λ z. got (stepped (sum_of (Fid c.args.st)) (told (fid_made c.args.st) (slopes z ∷ []))) 2) (back ∙ c.be_i16-v.ensures)
+    ∙ ap (λ z. got (stepped (sum_of (Fid c.args.st)) (told (fid_made c.args.st) (slopes z ∷ []))) 2) (back ∙ c.be_at-v.ensures)
     ∙ sym (rule_reads (Fid c.args.st) (fid_rule c.args.st) c.args.last c.args.s.now (fid_slopes c.args.st c.args.last c.args.s.now (omega arith) v))
 
 pub returns-then-s-lt-RESTART : goal.returns-then-s-lt-RESTART
 returns-then-s-lt-RESTART c =
-    let v = is_int_lem w16 32767 c.be_i16-v.ensures (search rules) c.if-v-ne32767.false in
+    let v = is_int_lem w16 32767 c.be_at-v.ensures (search rules) c.if-v-ne32767.false in
     ap stops c.cut-then-s-lt-RESTART.ensures ∙ sym (rule_reads (Fid c.args.st) (fid_rule c.args.st) c.args.last c.args.s.now (fid_restart_cut c.args.st c.args.last c.args.s.now (omega arith) (omega arith) v))
 
 pub returns : goal.returns
 returns c =
-    let v = is_int_lem w16 32767 c.be_i16-v.ensures (search rules) c.if-v-ne32767.false in
-    let back : to_z w32 (of_z w32 c.be_i32.result) ≡ c.be_i32.result = search rules in
+    let v = is_int_lem w16 32767 c.be_at-v.ensures (search rules) c.if-v-ne32767.false in
+    let back : to_z w32 (of_z w32 c.be_at.result) ≡ c.be_at.result = search rules in
     c.fid_restart.ensures
-    ∙ ap₂ (λ high low. got (stepped (sum_of (Fid c.args.st)) (told (fid_made c.args.st) (restarts high low ∷ []))) 8) (back ∙ c.be_i32.ensures) c.be_u16.ensures
+    ∙ ap₂ (λ high low. got (stepped (sum_of (Fid c.args.st)) (told (fid_made c.args.st) (restarts high low ∷ []))) 8) (back ∙ c.be_at.ensures) c.be_at-2.ensures
     ∙ sym (rule_reads (Fid c.args.st) (fid_rule c.args.st) c.args.last c.args.s.now (fid_restarts c.args.st c.args.last c.args.s.now (omega arith) v))

@@ -6,14 +6,14 @@ use Rattle.lines.specs.Lines.{bits_text}
 use Rattle.digits.proofs.Puts.{put_as, put_then}
 use Rattle.lines.proofs.put_double.Goals as goal
 
-pub returns-in-Pattern : goal.returns-in-Pattern
+pub returns-in-Some : goal.returns-in-Some
 unfolding bits_text
-returns-in-Pattern c =
-    let is = sym c.in-Pattern.is ∙ c.f64_to_bits.ensures in
+returns-in-Some c =
+    let is = sym c.in-Some.is ∙ c.f64_to_bits.ensures in
     record { put = put_as (ap (λ b. field (bits_text b) c.args.sep) is) (put_then c.put_bits-a.ensures.put c.put_byte.ensures); upper_bound = search rules }
 
-pub returns-in-Nan : goal.returns-in-Nan
+pub returns-in-None : goal.returns-in-None
 unfolding bits_text
-returns-in-Nan c =
-    let is = sym c.in-Nan.is ∙ c.f64_to_bits.ensures in
-    record { put = put_as (ap (λ b. field (bits_text b) c.args.sep) is) (put_then c.put_byte-a.ensures (put_then c.put_byte-b.ensures (put_then c.put_byte-c.ensures c.put_byte-in-Nan.ensures))); upper_bound = search rules }
+returns-in-None c =
+    let is = sym c.in-None.is ∙ c.f64_to_bits.ensures in
+    record { put = put_as (ap (λ b. field (bits_text b) c.args.sep) is) (put_then c.put_byte-a.ensures (put_then c.put_byte-b.ensures (put_then c.put_byte-c.ensures c.put_byte-in-None.ensures))); upper_bound = search rules }

@@ -22,4 +22,4 @@ pub returns : goal.returns
 unfolding described_by layout_of of_int of_bits
 returns c =
     let l = c.requires.2 in
-    rw (c.double_at-2.ensures, c.double_at.ensures, c.time_at-2.ensures, c.time_at.ensures, c.be_u16-3.ensures, c.be_u16-2.ensures, c.be_u16.ensures, l) refl
+    rw (c.double_at-2.ensures, c.double_at.ensures, c.time_at-2.ensures, c.time_at.ensures, c.be_at-3.ensures, c.be_at-2.ensures, c.be_at.ensures, l) refl

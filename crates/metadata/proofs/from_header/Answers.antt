@@ -11,14 +11,14 @@ unfolding layout_of
 returns-then-layout-eq0 c =
     let l = c in
     let m = ap (λ l. l.minimum) c.layout_of-layout.ensures in
-    whole_refused c.args.h.now (edition_unknown c.args.kind c.args.h.now c.be_u32-edition.result c.be_u32-edition.ensures (omega arith)) c.not_opened.ensures
+    whole_refused c.args.h.now (edition_unknown c.args.kind c.args.h.now c.be_at-edition.result c.be_at-edition.ensures (omega arith)) c.not_opened.ensures
 
 pub returns-then-h-layout : goal.returns-then-h-layout
 unfolding layout_of
 returns-then-h-layout c =
     let l = c in
     let m = ap (λ l. l.minimum) c.layout_of-layout.ensures in
-    whole_refused c.args.h.now (below_minimum c.args.kind c.args.h.now c.be_u32-edition.result c.be_u32-edition.ensures (omega arith) (omega arith)) c.not_opened-then-h-layout.ensures
+    whole_refused c.args.h.now (below_minimum c.args.kind c.args.h.now c.be_at-edition.result c.be_at-edition.ensures (omega arith) (omega arith)) c.not_opened-then-h-layout.ensures
 
 pub open_texts-requires : goal.open_texts-requires
 unfolding layout_of
@@ -32,4 +32,4 @@ unfolding layout_of
 returns c =
     let l = c in
     let m = ap (λ l. l.minimum) c.layout_of-layout.ensures in
-    subst (λ x. OpensWhole c.args.h.now x c.open_texts.result) (sym (past_minimum c.args.kind c.args.h.now c.be_u32-edition.result c.be_u32-edition.ensures (omega arith) (omega arith))) c.open_texts.ensures
+    subst (λ x. OpensWhole c.args.h.now x c.open_texts.result) (sym (past_minimum c.args.kind c.args.h.now c.be_at-edition.result c.be_at-edition.ensures (omega arith) (omega arith))) c.open_texts.ensures

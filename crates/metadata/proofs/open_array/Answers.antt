@@ -7,12 +7,12 @@ use Rattle.metadata.proofs.open_array.Goals as goal
 pub returns-then-h-lt4126 : goal.returns-then-h-lt4126
 returns-then-h-lt4126 c = whole_refused c.args.h.now (array_small c.args.d c.args.h.now c.if-h-lt4126.true) c.not_opened.ensures
 
-pub returns-in-TooMany : goal.returns-in-TooMany
+pub returns-in-None : goal.returns-in-None
 unfolding ◌>>=◌
-returns-in-TooMany c =
-    whole_refused c.args.h.now (array_counted c.args.d c.args.h.now c.if-h-lt4126.false c.time_step-time_step.ensures (sym c.in-TooMany.is ∙ c.scan_count.ensures)) c.not_opened-in-TooMany.ensures
+returns-in-None c =
+    whole_refused c.args.h.now (array_counted c.args.d c.args.h.now c.if-h-lt4126.false c.time_step-time_step.ensures (sym c.in-None.is ∙ c.scan_count.ensures)) c.not_opened-in-None.ensures
 
-pub returns-in-Count : goal.returns-in-Count
+pub returns-in-Some : goal.returns-in-Some
 unfolding ◌>>=◌
-returns-in-Count c =
-    whole_opened c.args.h.now (array_counted c.args.d c.args.h.now c.if-h-lt4126.false c.time_step-time_step.ensures (sym c.in-Count.is ∙ c.scan_count.ensures))
+returns-in-Some c =
+    whole_opened c.args.h.now (array_counted c.args.d c.args.h.now c.if-h-lt4126.false c.time_step-time_step.ensures (sym c.in-Some.is ∙ c.scan_count.ensures))

@@ -1,6 +1,5 @@
 -- Each turn finds one text more.
 use mathlib.Core.Path.{sym, ap, ◌∙◌, subst}
-use Prim.Native.Nat.{◌-◌}
 use Rattle.pascal.specs.Texts.{place_rule}
 use Rattle.metadata.specs.Remaining.{OpensWhole}
 use Rattle.metadata.specs.Metadata.{after_description}

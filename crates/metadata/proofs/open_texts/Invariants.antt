@@ -1,6 +1,6 @@
 -- Each turn finds one text more.
 use Prim.Native.Nat.{◌-◌}
-use Rattle.metadata.proofs.Gathers.{Gathered, starts}
+use Rattle.metadata.proofs.Gathers.{Gathered}
 use Rattle.metadata.proofs.open_texts.Given as goal
 
 abbrev pub invariant-loop-k : goal.invariant-loop-k

@@ -14,13 +14,13 @@ returns-in-Nowhere c = ap (λ k. time_at k c.args.at c.args.h.now) (sym c.in-Now
 
 pub returns-in-Whole : goal.returns-in-Whole
 returns-in-Whole c =
-    let back : to_z w32 (of_z w32 c.be_i32.result) ≡ c.be_i32.result = search rules in
+    let back : to_z w32 (of_z w32 c.be_at.result) ≡ c.be_at.result = search rules in
     c.minutes_of.ensures
-    ∙ ap minutes (c.f64_from_i32.ensures ∙ ap (of_int binary64) (back ∙ c.be_i32.ensures))
+    ∙ ap minutes (c.from.ensures ∙ ap (of_int binary64) (back ∙ c.be_at.ensures))
     ∙ ap (λ k. time_at k c.args.at c.args.h.now) (sym c.in-Whole.is)
 
 pub returns-in-Single : goal.returns-in-Single
 returns-in-Single c =
     c.minutes_of-in-Single.ensures
-    ∙ ap minutes (c.f64_from_f32_bits.ensures ∙ ap (of_bits binary32) c.be_u32.ensures)
+    ∙ ap minutes (c.f64_from_f32_bits.ensures ∙ ap (of_bits binary32) c.be_at-in-Single.ensures)
     ∙ ap (λ k. time_at k c.args.at c.args.h.now) (sym c.in-Single.is)

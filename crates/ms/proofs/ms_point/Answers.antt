@@ -12,7 +12,7 @@ returns-then-s-at-lt-POINT c v =
 
 pub returns-then-points-ne1 : goal.returns-then-points-ne1
 returns-then-points-ne1 c v =
-    rw (c.ms_given.ensures, c.ms_intensity-value.ensures, c.be_u16.ensures, c.be_u16-mz.ensures)
+    rw (c.ms_given.ensures, c.ms_intensity-value.ensures, c.be_at.ensures, c.be_at-mz.ensures)
     (ap (map_read (stepped v)) (sym (point_inner c.args.scans c.args.points c.args.time c.args.stored c.args.last c.args.at c.args.s.now (omega arith) c.if-points-ne1.true)))
 
 pub returns-then-s-at-lt-LAST_POINT : goal.returns-then-s-at-lt-LAST_POINT
@@ -21,5 +21,5 @@ returns-then-s-at-lt-LAST_POINT c v =
 
 pub returns : goal.returns
 returns c v =
-    rw (c.ms_given-2.ensures, c.ms_intensity-value.ensures, c.be_u16.ensures, c.be_u16-mz.ensures)
+    rw (c.ms_given-2.ensures, c.ms_intensity-value.ensures, c.be_at.ensures, c.be_at-mz.ensures)
     (ap (map_read (stepped v)) (sym (point_last c.args.scans c.args.points c.args.time c.args.stored c.args.last c.args.at c.args.s.now (omega arith) c.if-points-ne1.false)))

@@ -1,6 +1,5 @@
 -- What is read from the start is read from the next scan on, with so many scans left: an empty one changes nothing.
 use mathlib.Core.Path.{sym, ap, ◌∙◌}
-use Prim.Native.Nat.{◌-◌}
 use native.Mathlib.Omega.{arith}
 use Rattle.rules.specs.Rule.{stops, map_read}
 use Rattle.streams.specs.Next.{stepped}

@@ -17,8 +17,8 @@ returns-then-s-lt-GROUP c =
 
 pub returns-then-count-eq0 : goal.returns-then-count-eq0
 returns-then-count-eq0 c =
-    sym (mwd_ends c.args.st c.args.last c.args.s.now c.if-points-ne0.false c.be_u16-count.ensures (omega arith) c.if-count-eq0.true)
+    sym (mwd_ends c.args.st c.args.last c.args.s.now c.if-points-ne0.false c.be_at-count.ensures (omega arith) c.if-count-eq0.true)
 
 pub returns : goal.returns
 returns c =
-    rw (c.mwd_point-2.ensures, mwd_group c.args.st c.args.last c.args.s.now c.if-points-ne0.false c.be_u16-count.ensures (omega arith) c.if-count-eq0.false)
+    rw (c.mwd_point-2.ensures, mwd_group c.args.st c.args.last c.args.s.now c.if-points-ne0.false c.be_at-count.ensures (omega arith) c.if-count-eq0.false)

@@ -8,9 +8,9 @@ use Rattle.streams.proofs.changed_by.Goals as goal
 pub returns-in-By : goal.returns-in-By
 returns-in-By c =
     let back : to_z w16 (of_z w16 c.in-By.v) ≡ c.in-By.v = search rules in
-    rw (c.in-By.is, c.f64_from_i16.ensures, back)
+    rw (c.in-By.is, c.from.ensures, back)
 
 pub returns-in-Absolute : goal.returns-in-Absolute
 returns-in-Absolute c =
     let back : to_z w32 (of_z w32 c.in-Absolute.z) ≡ c.in-Absolute.z = search rules in
-    rw (c.in-Absolute.is, c.f64_from_i32.ensures, back)
+    rw (c.in-Absolute.is, c.from-in-Absolute.ensures, back)

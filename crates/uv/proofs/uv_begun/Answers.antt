@@ -14,4 +14,4 @@ overflow_add-result c = let q = div-le_self (c.args.end - c.args.start) c.args.s
 
 pub returns : goal.returns
 unfolding of_int of_bits
-returns c = rw (c.minutes_of.ensures, c.f64_from_u32.ensures, c.f64_from_u16.ensures, c.f64_from_u16-wv_step.ensures)
+returns c = rw (c.minutes_of.ensures, c.from-2.ensures, c.from.ensures, c.from-wv_step.ensures)

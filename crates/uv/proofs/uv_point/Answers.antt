@@ -1,5 +1,4 @@
 -- By what was read of the delta: the point it makes, or why there is none.
-use Prim.Native.Nat.{◌-◌}
 use Rattle.std.proofs.lemmas.Result.{err_from_is_err_and}
 use Rattle.common.specs.Bytes.{le}
 use Rattle.streams.specs.Next.{sum_of}
