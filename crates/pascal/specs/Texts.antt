@@ -1,11 +1,10 @@
 -- Texts behind a length byte: document 01, 'Header' and 'Open' (FORMAT 4.3).
-use Rattle.std.specs.Prelude.{cond, List, ℕ, ◌+◌, ◌-◌, ◌*◌, ltb, eqb, length, get_or}
+use Rattle.std.specs.Prelude.{cond, List, ℕ, ◌+◌, ◌-◌, ◌*◌, ltb, eqb, length, get_or, Option, None, Some}
 use Rattle.rules.specs.Rule.{Rule, gives, refuses, ◌>>◌}
 use Rattle.error.specs.Number.{number_of}
 use Rattle.common.specs.Bytes.{part}
 use Rattle.trim.specs.WhiteSpace.{trimmed_of}
-use Rattle.trim.specs.declared.Trimmed.{Trimmed}
-use Rattle.trim.specs.declared.Trimmed.TheVariants as trimmed
+use Rattle.trim.specs.declared.Extent.{Extent}
 use Rattle.agilent.specs.Header.{check}
 use Rattle.pascal.specs.declared.TextField.{TextField}
 use Rattle.pascal.specs.declared.TextField.TheVariants.{Absent, Pascal, PascalToEnd, Utf16}
@@ -21,9 +20,9 @@ abbrev pub place_at : ℕ → ℕ → Place
 place_at start bytes = cond (eqb bytes 0) (record { start = 0; bytes = 0 }) (record { start = start; bytes = bytes })
 
 -- '8, not UTF-8'
-abbrev pub trimmed_from : ℕ → Trimmed → Rule Place
-trimmed_from from trimmed.NotUtf8 = refuses 8
-trimmed_from from (trimmed.At p n) = gives (place_at (from + p) n)
+abbrev pub trimmed_from : ℕ → Option Extent → Rule Place
+trimmed_from from None = refuses 8
+trimmed_from from (Some e) = gives (place_at (from + e.start) e.count)
 
 -- 'Old: length byte, UTF-8, trimmed of Unicode White_Space at both ends'; '7, length byte not below the field's width'
 unfoldable pub pascal : ℕ → ℕ → List ℕ → Rule Place

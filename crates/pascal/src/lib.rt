@@ -6,7 +6,7 @@ ghost use Rattle.rules.specs.Rule.{gives};
 ghost use Rattle.pascal.specs.Texts.{reach, place_at, pascal, utf16_pascal, text_rule, place_rule};
 
 use error::Refusal;
-use trim::{Trimmed, trim_utf8};
+use trim::trim_utf8;
 
 // The field of a text.
 #[derive(Clone, Copy)]
@@ -61,8 +61,8 @@ fn get_pascal(h: &[u8], start: usize, width: usize) -> TextPlace
     let from = start + 1;
     let to = from + n;
     match trim_utf8(&h[from..to]) {
-        Trimmed::NotUtf8 => TextPlace::Refused(Refusal::NotUtf8),
-        Trimmed::At(p, bytes) => place_at(from + p, bytes),
+        None => TextPlace::Refused(Refusal::NotUtf8),
+        Some(t) => place_at(from + t.start, t.count),
     }
 }
 

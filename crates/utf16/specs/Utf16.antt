@@ -1,9 +1,8 @@
 -- UTF-16 (the Unicode standard, 3.9: D91, Table 3-5), its units little-endian.
-use Rattle.std.specs.Prelude.{◌≡◌, Bool, not, cond, ◌&&◌, ◌||◌, List, [], ◌∷◌, ◌++◌, ℕ, zero, suc, ◌+◌, ◌-◌, ◌*◌, ◌/◌, ◌%◌, ◌≤◌, ◌<◌, ltb, length, get_or, drop}
+use Rattle.std.specs.Prelude.{◌≡◌, Bool, not, cond, ◌&&◌, ◌||◌, List, [], ◌∷◌, ◌++◌, ℕ, zero, suc, ◌+◌, ◌-◌, ◌*◌, ◌/◌, ◌%◌, ◌≤◌, ◌<◌, ltb, length, get_or, drop, Option, None, Some}
 use Rattle.utf8.specs.Utf8.{Scalars, within, encode, encodes}
-use Rattle.written.specs.declared.Written.{Written}
-use Rattle.written.specs.declared.Written.TheVariants.{Bytes, NoRoom}
 use Rattle.utf16.specs.declared.Piece.{Piece}
+use Rattle.utf16.specs.declared.Recoded.{Recoded}
 
 -- An odd byte at the end is no unit. No caller passes one.
 abbrev pub units : List ℕ → List ℕ
@@ -64,10 +63,10 @@ places_below (suc n) test = places_below n test + cond (test n) 1 0
 unfoldable pub unpaired : List ℕ → ℕ
 unpaired us = places_below (length us) (lacks_partner us)
 
--- what the decoder reports: their number, and 0 where nothing is written
-abbrev pub reported : Written → ℕ → ℕ
-reported (Bytes n) count = count
-reported NoRoom count = 0
+-- the count of bytes that the decoder answers
+abbrev pub bytes_of : Option Recoded → Option ℕ
+bytes_of None = None
+bytes_of (Some r) = Some r.bytes
 
 -- ---- Steps of the code.
 

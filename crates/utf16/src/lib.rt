@@ -1,15 +1,12 @@
 // UTF-16 made into UTF-8, in a lent buffer.
 #![tactic(auto)]
 
-ghost use Rattle.std.specs.Prelude.{◌≡◌, List, ◌++◌, ℕ, ◌+◌, ◌≤◌, ◌<◌, leb, length, drop};
+ghost use Rattle.std.specs.Prelude.{IfSome, ◌≡◌, List, ◌++◌, ℕ, ◌+◌, ◌≤◌, ◌<◌, leb, length, drop};
 ghost use Rattle.std.proofs.Math.Seq.{paste};
 ghost use Rattle.utf8.specs.Utf8.{encode, six, Utf8};
 ghost use Rattle.written.specs.Written.{written, Puts};
 ghost use Rattle.common.specs.Bytes.{AreBytes};
-ghost use Rattle.utf16.specs.Utf16.{units, utf16, utf8_of, unpaired, reported, piece_of, unit_at, First};
-
-use utf8::{wide, within};
-use written::Written;
+ghost use Rattle.utf16.specs.Utf16.{units, utf16, utf8_of, unpaired, bytes_of, piece_of, unit_at, First};
 
 // A scalar, how many bytes of UTF-16 it takes, and how many units of these were replaced by it: one or none.
 #[derive(Clone, Copy)]
@@ -20,16 +17,9 @@ struct Piece {
 }
 
 // The bytes of UTF-8 that were put, and the units that were replaced on the way.
-#[derive(Clone, Copy)]
+#[derive(Clone, Copy, Debug, PartialEq, Eq)]
 pub struct Recoded {
     pub bytes: usize,
-    pub replaced: usize,
-}
-
-// What was written, and how many units were replaced in it.
-#[derive(Clone, Copy)]
-pub struct Decoding {
-    pub answer: Written,
     pub replaced: usize,
 }
 
@@ -64,6 +54,7 @@ fn six(c: u32) -> u8
 }
 
 // Puts the UTF-8 of a scalar at a place, and answers the place behind it.
+#[tactic(auto, using(crate::proofs::Stores::stored_4))]
 fn put_scalar(out: &mut [u8], at: usize, c: u32) -> usize
     requires { (c < 0x110000) × (at + length (encode c) ≤ length out.old) }
     ensures { (result ≡ at + length (encode c)) × (out.new ≡ paste out.old at (encode c) (length (encode c))) }
@@ -99,6 +90,7 @@ const REPLACEMENT: u32 = 0xFFFD;
 const REPLACED: usize = 1;
 
 // The unit at a place, or 0 where there is none.
+#[tactic(auto, using(crate::proofs::Units::unit_is, crate::proofs::Units::unit_none))]
 fn unit_at(s: &[u8], at: usize) -> u32
     requires { at ≤ length s.now }
     ensures { (result ≡ unit_at s.now at) × (result < 65536) }
@@ -106,13 +98,13 @@ fn unit_at(s: &[u8], at: usize) -> u32
     if s.len() - at < 2 {
         return 0;
     }
-    wide(s[at]) + 256 * wide(s[at + 1])
+    u32::from(u16::from_le_bytes([s[at], s[at + 1]]))
 }
 
 fn piece_of(u: u32, v: u32) -> Piece
     ensures { result ≡ piece_of u v }
 {
-    if !within(0xD800, 0xDFFF, u) {
+    if !(0xD800..=0xDFFF).contains(&u) {
         return Piece {
             scalar: u,
             width: 2,
@@ -126,7 +118,7 @@ fn piece_of(u: u32, v: u32) -> Piece
             replaced: REPLACED,
         };
     }
-    if !within(0xDC00, 0xDFFF, v) {
+    if !(0xDC00..=0xDFFF).contains(&v) {
         return Piece {
             scalar: REPLACEMENT,
             width: 2,
@@ -144,6 +136,7 @@ fn piece_of(u: u32, v: u32) -> Piece
 }
 
 // What the UTF-16 from a place on begins with.
+#[tactic(auto, using(crate::proofs::Units::low_piece, crate::proofs::Units::first_is))]
 fn piece_at(s: &[u8], at: usize) -> Piece
     requires { at + 2 ≤ length s.now }
     ensures { First s.now at result }
@@ -161,7 +154,8 @@ fn piece_at(s: &[u8], at: usize) -> Piece
 }
 
 // How many bytes of UTF-8 the UTF-16 in s makes, if there is room for them.
-pub fn measured(s: &[u8], room: usize) -> Written
+#[tactic(auto, using(crate::proofs::Units::passes, crate::proofs::Units::all_done))]
+pub fn measured(s: &[u8], room: usize) -> Option<usize>
     ensures { result ≡ written room (utf8_of s.now) }
 {
     let mut at: usize = 0;
@@ -170,25 +164,23 @@ pub fn measured(s: &[u8], room: usize) -> Written
         let p = piece_at(s, at);
         let w = width_of(p.scalar);
         if room - n < w {
-            return Written::NoRoom;
+            return None;
         }
         n += w;
         at += p.width;
     }
-    Written::Bytes(n)
+    Some(n)
 }
 
 // Whether there is room for the UTF-8 of the UTF-16 in s. No byte makes more than two: only where the room is less is it measured.
+#[tactic(auto, using(crate::proofs::Units::twice))]
 fn has_room(s: &[u8], room: usize) -> bool
     ensures { result ≡ leb (length (utf8_of s.now)) room }
 {
     if s.len() <= room / 2 {
         return true;
     }
-    match measured(s, room) {
-        Written::Bytes(_) => true,
-        Written::NoRoom => false,
-    }
+    measured(s, room).is_some()
 }
 
 // Puts the UTF-8 of the UTF-16 in s at the start of out, and answers its length and how many units were replaced.
@@ -210,21 +202,14 @@ pub fn recode(s: &[u8], out: &mut [u8]) -> Recoded
 }
 
 // Writes the UTF-8 of the UTF-16 in src to the start of out, if there is room for it, and reports the units that were replaced.
-pub fn decode_utf16(src: &[u8], out: &mut [u8]) -> Decoding
-    ensures written { Puts result.answer out.old out.new (utf8_of src.now) }
-    ensures replaced { result.replaced ≡ reported result.answer (unpaired (units src.now)) }
+pub fn decode_utf16(src: &[u8], out: &mut [u8]) -> Option<Recoded>
+    ensures written { Puts (bytes_of result) out.old out.new (utf8_of src.now) }
+    ensures replaced { IfSome result (λ r. r.replaced ≡ unpaired (units src.now)) }
 {
     if !has_room(src, out.len()) {
-        return Decoding {
-            answer: Written::NoRoom,
-            replaced: 0,
-        };
+        return None;
     }
-    let r = recode(src, out);
-    Decoding {
-        answer: Written::Bytes(r.bytes),
-        replaced: r.replaced,
-    }
+    Some(recode(src, out))
 }
 
 // What the definitions mean, in a contract so that it cannot be left out: UTF-16 becomes UTF-8.

@@ -10,17 +10,17 @@ pub returns-then-width-n : goal.returns-then-width-n
 returns-then-width-n c =
     sym (pascal_long c.args.h.now c.args.start c.args.width c.wide-n.result c.wide-n.ensures.0 c.if-width-n.true)
 
-pub overflow_add-from-in-At : goal.overflow_add-from-in-At
-overflow_add-from-in-At c =
-    record { fits = omega (arith, trims_within c.args.h.now c.args.start c.args.width c.wide-n.result c.wide-n.ensures.0 (omega arith) c.in-At.p c.in-At.bytes (sym c.trim_utf8.ensures ∙ c.in-At.is), c.well_formed) }
+pub overflow_add-from-in-Some : goal.overflow_add-from-in-Some
+overflow_add-from-in-Some c =
+    record { fits = omega (arith, trims_within c.args.h.now c.args.start c.args.width c.wide-n.result c.wide-n.ensures.0 (omega arith) c.in-Some.t.start c.in-Some.t.count (sym c.trim_utf8.ensures ∙ c.in-Some.is), c.well_formed) }
 
-pub returns-in-NotUtf8 : goal.returns-in-NotUtf8
-returns-in-NotUtf8 c =
-    ap (trimmed_from (c.args.start + 1)) (sym c.in-NotUtf8.is ∙ c.trim_utf8.ensures)
+pub returns-in-None : goal.returns-in-None
+returns-in-None c =
+    ap (trimmed_from (c.args.start + 1)) (sym c.in-None.is ∙ c.trim_utf8.ensures)
     ∙ sym (pascal_trims c.args.h.now c.args.start c.args.width c.wide-n.result c.wide-n.ensures.0 c.if-width-n.false)
 
-pub returns-in-At : goal.returns-in-At
-returns-in-At c =
+pub returns-in-Some : goal.returns-in-Some
+returns-in-Some c =
     c.place_at.ensures
-    ∙ ap (trimmed_from (c.args.start + 1)) (sym c.in-At.is ∙ c.trim_utf8.ensures)
+    ∙ ap (trimmed_from (c.args.start + 1)) (sym c.in-Some.is ∙ c.trim_utf8.ensures)
     ∙ sym (pascal_trims c.args.h.now c.args.start c.args.width c.wide-n.result c.wide-n.ensures.0 c.if-width-n.false)

@@ -9,8 +9,3 @@ pub returns-then-u-lt55296 : goal.returns-then-u-lt55296
 returns-then-u-lt55296 c =
     subst (First c.args.s.now c.args.at) (sym (low_piece _ (unit_at c.args.s.now (c.args.at + 2)) c.if-u-lt55296.true ∙ ap (λ (n : ℕ). piece_of n (unit_at c.args.s.now (c.args.at + 2))) c.unit_at-u.ensures.0))
     (first_is c.args.s.now c.args.at c.requires (subst (λ (n : ℕ). n < 65536) c.unit_at-u.ensures.0 c.unit_at-u.ensures.1))
-
-pub returns : goal.returns
-returns c =
-    subst (First c.args.s.now c.args.at) (sym (c.piece_of.ensures ∙ ap (λ (n : ℕ). piece_of n c.unit_at.result) c.unit_at-u.ensures.0 ∙ ap (piece_of (unit_at c.args.s.now c.args.at)) c.unit_at.ensures.0))
-    (first_is c.args.s.now c.args.at c.requires (subst (λ (n : ℕ). n < 65536) c.unit_at-u.ensures.0 c.unit_at-u.ensures.1))

@@ -6,35 +6,15 @@ use Rattle.utf16.proofs.recode.Goals as goal
 pub loop-at-init : goal.loop-at-init
 loop-at-init c = (put_starts _ _, count_starts c.args.s.now)
 
-pub overflow_sub-s : goal.overflow_sub-s
-overflow_sub-s c = c.loop-at.invariant.0.pass.room
-
-pub piece_at-p-requires : goal.piece_at-p-requires
-piece_at-p-requires c = omega (arith, c.loop-at.invariant.0.pass.room)
-
-pub put_scalar-n-requires : goal.put_scalar-n-requires
-put_scalar-n-requires c =
-    (c.piece_at-p.ensures.small, put_fits _ _ _ _ _ c.loop-at.invariant.0 c.requires c.piece_at-p.result c.piece_at-p.ensures)
-
 pub overflow_add-replaced : goal.overflow_add-replaced
 overflow_add-replaced c =
     record { fits = omega (arith, count_fits c.args.s.now c.loop-at.at c.loop-at.replaced c.loop-at.invariant.1 c.piece_at-p.result c.piece_at-p.ensures, c.well_formed) }
-
-pub overflow_add-at : goal.overflow_add-at
-overflow_add-at c =
-    record { fits = omega (arith, c.piece_at-p.ensures.fits, c.well_formed) }
-
-pub loop-at-smaller : goal.loop-at-smaller
-loop-at-smaller c = omega (arith, c.piece_at-p.ensures.fits, c.piece_at-p.ensures.moves)
 
 pub loop-at-preserved : goal.loop-at-preserved
 loop-at-preserved c = (
   put_on _ _ _ _ _ c.loop-at.invariant.0 c.requires c.piece_at-p.result c.piece_at-p.ensures c.put_scalar-n.result c.put_scalar-n.new.out c.put_scalar-n.ensures.0 c.put_scalar-n.ensures.1,
   count_on _ c.loop-at.at c.loop-at.replaced c.loop-at.invariant.1 c.piece_at-p.result c.piece_at-p.ensures,
 )
-
-pub shape_of-out : goal.shape_of-out
-shape_of-out c = same _ _ _ _ _ c.loop-at.invariant.0 c.requires
 
 pub returns : goal.returns
 returns c =
