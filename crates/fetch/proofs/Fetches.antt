@@ -10,10 +10,8 @@ use Rattle.rules.specs.Rule.{Stop, refused, Read, got, stops, read, map_read}
 use Rattle.rules.proofs.Laws.{read_map}
 use Rattle.error.specs.Number.{number_of}
 use Rattle.error.specs.declared.Refusal.{Refusal}
-use Rattle.utf16.specs.Utf16.{reported}
+use Rattle.std.specs.Prelude.{Option, None, Some}
 use Rattle.written.specs.Written.{Puts}
-use Rattle.written.specs.declared.Written.{Written}
-use Rattle.written.specs.declared.Written.TheVariants.{Bytes, NoRoom}
 use Rattle.fetch.specs.declared.Fetched.{Fetched}
 use Rattle.fetch.specs.declared.FetchedText.{FetchedText}
 use Rattle.fetch.specs.declared.Fetched.TheVariants.{Refused}
@@ -28,15 +26,15 @@ use Rattle.metadata.proofs.Opens.{open_reads}
 -- ---- the answers
 
 -- what was written, as an outcome of Fetch
-abbrev pub outcome_in : Written → Outcome
-outcome_in (Bytes n) = wrote n
-outcome_in NoRoom = refuse 15
+abbrev pub outcome_in : Option ℕ → Outcome
+outcome_in (Some n) = wrote n
+outcome_in None = refuse 15
 
-by_room_lem : (b : Bool) (x y : Written) → outcome_in (cond b x y) ≡ cond b (outcome_in x) (outcome_in y)
+by_room_lem : (b : Bool) (x y : Option ℕ) → outcome_in (cond b x y) ≡ cond b (outcome_in x) (outcome_in y)
 by_room_lem true x y = refl
 by_room_lem false x y = refl
 
-pub answers_written : {r : Fetched} {w : Written} {old new t : List ℕ} {n : ℕ} → outcome_of r ≡ outcome_in w → Puts w old new t → Fetches r old new (got t n)
+pub answers_written : {r : Fetched} {w : Option ℕ} {old new t : List ℕ} {n : ℕ} → outcome_of r ≡ outcome_in w → Puts w old new t → Fetches r old new (got t n)
 answers_written {old = old} {t = t} e p = record { answer = e ∙ ap outcome_in p.answer ∙ by_room_lem (leb (length t) (length old)) _ _; buffer = p.holds }
 
 pub answers_refusal : (old : List ℕ) {r : Refusal} {z : Stop} {x : Read (List ℕ)} → x ≡ stops z → number_of r ≡ number_of_stop z → Fetches (Refused r) old old x
@@ -47,15 +45,6 @@ pub answers_text : {r : Fetched} {old new t : List ℕ} {m n : ℕ} {x : Read (L
 answers_text e f = rw e (record { answer = f.answer; buffer = f.buffer })
 
 -- ---- the number beside the answer
-
--- what the decoder reports of a text that was written, or was not
-pub reports : (r : Fetched) (w : Written) {old new t : List ℕ} {n : ℕ} (count : ℕ) → Puts w old new t → Fetches r old new (got t n) → reported w count ≡ passed_on (outcome_of r) count
-reports r w {old} {t = t} count p f =
-    ap (λ (x : Written). reported x count) p.answer ∙ told (leb (length t) (length old)) ∙ sym (ap (λ (o : Outcome). passed_on o count) f.answer)
-  where
-    told : (b : Bool) → reported (cond b (Bytes (length t)) NoRoom) count ≡ passed_on (cond b (wrote (length t)) (refuse 15)) count
-    told true = refl
-    told false = refl
 
 pub passes_none : (o : Outcome) → 0 ≡ passed_on o 0
 passes_none (wrote n) = refl

@@ -16,9 +16,9 @@ use Rattle.common.specs.Bytes.{part}
 use Rattle.agilent.proofs.HeaderLaws.{part_take}
 use Rattle.utf8.specs.Utf8.{encodes, decode}
 use Rattle.utf16.specs.Utf16.{units, utf16, utf8_of, unpaired}
-use Rattle.trim.specs.WhiteSpace.{trimmed_of}
-use Rattle.trim.specs.declared.Trimmed.{Trimmed}
-use Rattle.trim.specs.declared.Trimmed.TheVariants.{NotUtf8, At}
+use Rattle.std.specs.Prelude.{Option, None, Some}
+use Rattle.trim.specs.WhiteSpace.{at, trimmed_of}
+use Rattle.trim.specs.declared.Extent.{Extent}
 use borrow.Table.Steps.{cases as by}
 use Rattle.utf8.proofs.Decodes.{exactly}
 use Rattle.utf16.proofs.Units.{twice}
@@ -51,7 +51,7 @@ module _ (h : List ℕ) (start : ℕ) where
   abbrev raw : List ℕ
   raw = part (start + 1) (get_or h start 0) h
 
-  trimmed_holds : (p n : ℕ) → trimmed_of raw ≡ At p n → Holds h (place_at (start + 1 + p) n) (trimmed_text (decode raw))
+  trimmed_holds : (p n : ℕ) → trimmed_of raw ≡ at p n → Holds h (place_at (start + 1 + p) n) (trimmed_text (decode raw))
   trimmed_holds p n e =
       let s = stands_at raw p n e in
       let i = inside_bounds s in
@@ -118,9 +118,9 @@ Found f h p = ((i : ℕ) → Fits w8 (get_or h i 0)) → Holds h p (stored f h)
 
 -- a text of an old edition
 module _ (f : TextField) (h : List ℕ) (start : ℕ) (old : (p : Place) → Holds h p (trimmed_text (decode (raw h start))) → Found f h p) where
-  trimmed_found : (t : Trimmed) → trimmed_of (raw h start) ≡ t → Orderly false (Found f h) (trimmed_from (start + 1) t)
-  trimmed_found NotUtf8 e = refusing
-  trimmed_found (At p n) e = giving (old (place_at (start + 1 + p) n) (trimmed_holds h start p n e))
+  trimmed_found : (t : Option Extent) → trimmed_of (raw h start) ≡ t → Orderly false (Found f h) (trimmed_from (start + 1) t)
+  trimmed_found None e = refusing
+  trimmed_found (Some x) e = giving (old (place_at (start + 1 + x.start) x.count) (trimmed_holds h start x.start x.count e))
 
   pascal_found : (width : ℕ) → Orderly false (Found f h) (pascal start width h)
   unfolding pascal

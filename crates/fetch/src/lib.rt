@@ -15,7 +15,7 @@ ghost use Rattle.fetch.specs.Fetch.{text_of, fetch_rule, number_of_stop, outcome
 use error::{Refusal, Stopped};
 use metadata::{ChemstationMetadata, Opened, open_header};
 use utf16::decode_utf16;
-use written::{Written, copy_text};
+use written::copy_text;
 
 // What Fetch a text answers.
 #[derive(Clone, Copy)]
@@ -65,12 +65,12 @@ pub fn refusal_of(z: Stopped) -> Refusal
 }
 
 // What was written, as an answer of Fetch.
-fn answer_of(w: Written) -> Fetched
+fn answer_of(w: Option<usize>) -> Fetched
     ensures { (old new t : List ℕ) (n : ℕ) → Puts w old new t → Fetches result old new (got t n) }
 {
     match w {
-        Written::Bytes(n) => Fetched::Text(n),
-        Written::NoRoom => Fetched::Refused(Refusal::LentLength),
+        Some(n) => Fetched::Text(n),
+        None => Fetched::Refused(Refusal::LentLength),
     }
 }
 
@@ -114,11 +114,12 @@ fn fetch_from(d: ChemstationMetadata, k: usize, h: &[u8], out: &mut [u8]) -> Fet
     let bytes = text_bytes(d, k, h);
     // the edition tells the encoding; a text that it lacks is empty in both
     if 102 < d.edition {
-        let t = decode_utf16(bytes, out);
-        let written = t.answer;
-        return FetchedText {
-            answer: answer_of(written),
-            replaced: t.replaced,
+        return match decode_utf16(bytes, out) {
+            Some(t) => FetchedText {
+                answer: Fetched::Text(t.bytes),
+                replaced: t.replaced,
+            },
+            None => refused(Refusal::LentLength),
         };
     }
     FetchedText {

@@ -14,8 +14,7 @@ use Rattle.error.specs.Number.{stop_of}
 use Rattle.error.specs.declared.Stopped.{Stopped}
 use Rattle.common.specs.Bytes.{be, part}
 use Rattle.floats.specs.Doubles.{scan_count_of}
-use Rattle.trim.specs.declared.Trimmed.{Trimmed}
-use Rattle.trim.specs.declared.Trimmed.TheVariants.{NotUtf8, At}
+use Rattle.trim.specs.declared.Extent.{Extent}
 use Rattle.agilent.specs.Header.{known, header_rule}
 use Rattle.layouts.specs.Table.{Entry, look, minima, texts, field_of}
 use Rattle.pascal.specs.Texts.{Place, trimmed_from, pascal, text_rule, reach}
@@ -55,9 +54,9 @@ module _ (h : List ℕ) (P : TextField → Place → Type 0) (text : (f : TextFi
       then (search checked) λ _. next (tested (leb (look 0 minima e) (length h)) 6) λ _ m.
       next (each_text e texts λ k l. omega (arith, field_lies k e, leb-true (look 0 minima e) (length h) m)) λ ps x. giving x
 
-any_trimmed : (from : ℕ) (t : Trimmed) → Orderly false Any (trimmed_from from t)
-any_trimmed from NotUtf8 = refusing
-any_trimmed from (At p n) = giving tt
+any_trimmed : (from : ℕ) (t : Option Extent) → Orderly false Any (trimmed_from from t)
+any_trimmed from None = refusing
+any_trimmed from (Some e) = giving tt
 
 any_text : (h : List ℕ) (f : TextField) → Orderly false Any (text_rule f h)
 unfolding text_rule pascal

@@ -17,7 +17,6 @@ use error::Refusal;
 use fetch::{Fetched, length_of, refusal_of, text_bytes};
 use metadata::{ChemstationMetadata, Opened, open_header};
 use utf16::{Recoded, measured, recode};
-use written::{Written, put};
 
 // The answer, and beside it how many units of each text were replaced by U+FFFD: 0s where they are refused.
 #[derive(Clone, Copy)]
@@ -46,7 +45,7 @@ fn refused(r: Refusal) -> FetchedTexts
 }
 
 // The length of a text in bytes, by its number less one, if there is room for it.
-fn text_length(d: ChemstationMetadata, k: usize, h: &[u8], room: usize) -> Written
+fn text_length(d: ChemstationMetadata, k: usize, h: &[u8], room: usize) -> Option<usize>
     requires { (k < 8) × (metadata_rule h.now ≡ gives d) }
     ensures { result ≡ written room (text_of (field_of k d.edition) h.now) }
 {
@@ -56,9 +55,9 @@ fn text_length(d: ChemstationMetadata, k: usize, h: &[u8], room: usize) -> Writt
     }
     let n = bytes.len();
     if room < n {
-        return Written::NoRoom;
+        return None;
     }
-    Written::Bytes(n)
+    Some(n)
 }
 
 // Puts a text at a place, and answers its length and how many of its units were replaced.
@@ -73,7 +72,7 @@ fn put_text(d: ChemstationMetadata, k: usize, h: &[u8], out: &mut [u8], at: usiz
         return recode(bytes, &mut out[at..]);
     }
     let n = bytes.len();
-    put(bytes, n, out, at);
+    out[at..at + n].copy_from_slice(bytes);
     Recoded {
         bytes: n,
         replaced: 0,
@@ -106,8 +105,8 @@ fn measured_fit(d: ChemstationMetadata, h: &[u8], room: usize) -> bool
     let mut k: usize = 0;
     while k < 8 {
         match text_length(d, k, h, room - n) {
-            Written::NoRoom => return false,
-            Written::Bytes(m) => {
+            None => return false,
+            Some(m) => {
                 n += m;
                 k += 1;
             }

@@ -1,5 +1,5 @@
 -- UTF-16 scalar by scalar, and the UTF-8 that it makes.
-use mathlib.Core.Path.{◌≡◌, refl, sym, ap, ◌∙◌}
+use mathlib.Core.Path.{◌≡◌, refl, sym, ap, ◌∙◌, subst}
 use mathlib.Core.Logic.{inl, inr, ⊎_elim}
 use mathlib.Core.Bool.{Bool, true, false, cond, ◌&&◌}
 use mathlib.Core.List.{List, [], ◌∷◌, ◌++◌, append_assoc, append-nil}
@@ -12,12 +12,15 @@ use lib.ListN.{length, drop, get_or, length-append, length-drop}
 use lib.Seq.{drop-cons, paste}
 use borrow.Author.Tests.{ltb-true, ltb-false, lt-leb}
 use borrow.Table.Steps.{cases as by}
+use Rattle.std.specs.Prelude.{Option, Some, IfSome}
 use Rattle.utf16.specs.declared.Piece.{Piece}
+use Rattle.utf16.specs.declared.Recoded.{Recoded}
 use Rattle.utf8.specs.Utf8.{Scalar, Scalars, Utf8, encode, encodes, within}
 use Rattle.common.specs.Bytes.{AreBytes}
-use Rattle.utf16.specs.Utf16.{units, is_high, is_low, alone, pair, utf16, utf8_of, unpaired, replaced_alone, piece_of, unit_at, First}
+use Rattle.utf16.specs.Utf16.{units, is_high, is_low, alone, pair, utf16, utf8_of, unpaired, bytes_of, replaced_alone, piece_of, unit_at, First}
 use Rattle.utf8.proofs.Cases.{never, both, first, second, least, most, inside}
 use Rattle.utf8.proofs.Decodes.{encode_length}
+use Rattle.written.specs.Written.{Puts}
 use Rattle.written.proofs.Puts.{paste_next}
 use Rattle.utf16.proofs.Partners.{few_unpaired, lone_counts, pair_counts}
 
@@ -266,3 +269,12 @@ few_bytes (c ∷ cs) = omega (arith, few_bytes cs, (encode_length c).1, length-a
 pub twice : (bs : List ℕ) → length (utf8_of bs) ≤ 2 * length bs
 unfolding utf8_of
 twice bs = omega (arith, few_bytes (utf16 (units bs)), few_scalars (units bs), few_units bs)
+
+-- ---- for callers: an answer that says a count
+
+module _ {q : Option Recoded} {r : Recoded} (e : q ≡ Some r) where
+  pub said_bytes : {old new text : List ℕ} → Puts (bytes_of q) old new text → Puts (Some r.bytes) old new text
+  said_bytes {old} {new} {text} p = subst (λ (x : Option Recoded). Puts (bytes_of x) old new text) e p
+
+  pub said_replaced : {n : ℕ} → IfSome q (λ x. x.replaced ≡ n) → r.replaced ≡ n
+  said_replaced {n} p = subst (λ (x : Option Recoded). IfSome x (λ y. y.replaced ≡ n)) e p

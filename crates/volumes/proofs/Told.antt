@@ -7,12 +7,15 @@ use native.Mathlib.Omega.{arith}
 use lib.Dec.{leb}
 use lib.ListN.{length, take, drop, length-append}
 use lib.Seq.{take-append_seam}
-use borrow.Author.Tests.{leb-false}
+use borrow.Author.Tests.{le-leb}
 use borrow.Table.Steps.{cases as by}
 use Rattle.rules.specs.Rule.{Stop, got, stops, read, map_read}
+use Rattle.utf16.specs.Utf16.{bytes_of}
+use Rattle.utf16.specs.declared.Recoded.{Recoded}
+use Rattle.utf16.proofs.Units.{said_bytes}
 use Rattle.written.specs.Written.{Puts}
-use Rattle.written.specs.declared.Written.{Written}
-use Rattle.written.specs.declared.Written.TheVariants.{Bytes, NoRoom}
+use Rattle.written.proofs.Puts.{room_for, length_for, no_room}
+use Rattle.std.specs.Prelude.{Option, None, Some}
 use Rattle.metadata.specs.Metadata.{Header, open_rule}
 use Rattle.fetch.specs.Fetch.{number_of_stop}
 use Rattle.fetch.proofs.Fetches.{text_in, fetch_reads}
@@ -23,27 +26,24 @@ use Rattle.volumes.specs.Volume.{told, told_by, refuse, run_date}
 
 -- ---- a text in a buffer
 
-module _ (w : Written) (old new t : List ℕ) (p : Puts w old new t) where
-  all_written : (n : ℕ) → w ≡ Bytes n → (n ≤ length new) × (take n new ≡ t)
-  all_written n e = by (leb (length t) (length old))
-      (λ h.
-      let a : Bytes n ≡ Bytes (length t) = sym e ∙ p.answer ∙ simp h in
-      let m : n ≡ length t = cc in
-      let b : new ≡ t ++ drop (length t) old = p.holds ∙ simp h in
-      rw (m, b) (rw length-append (omega arith), take-append_seam t (drop (length t) old)))
-      (λ h. let a : Bytes n ≡ NoRoom = sym e ∙ p.answer ∙ simp h in absurd (let z : ◌≡◌ {A = ℕ} 0 1 = cc in omega arith))
+module _ (q : Option Recoded) (old new t : List ℕ) (p : Puts (bytes_of q) old new t) where
+  all_written : (r : Recoded) → q ≡ Some r → (r.bytes ≤ length new) × (take r.bytes new ≡ t)
+  all_written r e =
+      let k = said_bytes e p in
+      let h = room_for (length old) t r.bytes k.answer in
+      let m = length_for (length old) t r.bytes k.answer in
+      let b : new ≡ t ++ drop (length t) old = k.holds ∙ simp (le-leb _ _ h) in
+      rw (m, b) (rw length-append (omega arith), take-append_seam t (drop (length t) old))
 
-  pub in_buffer : (n : ℕ) → w ≡ Bytes n → n ≤ length new
-  in_buffer n e = (all_written n e).0
+  pub in_buffer : (r : Recoded) → q ≡ Some r → r.bytes ≤ length new
+  in_buffer r e = (all_written r e).0
 
-  pub the_text : (n : ℕ) → w ≡ Bytes n → take n new ≡ t
-  the_text n e = (all_written n e).1
+  pub the_text : (r : Recoded) → q ≡ Some r → take r.bytes new ≡ t
+  the_text r e = (all_written r e).1
 
   -- what has no room in 24 bytes or more is no date
-  pub too_long : 24 ≤ length old → w ≡ NoRoom → NoDate ≡ date_of t
-  too_long l e = by (leb (length t) (length old))
-      (λ h. let a : NoRoom ≡ Bytes (length t) = sym e ∙ p.answer ∙ simp h in absurd (let z : ◌≡◌ {A = ℕ} 0 1 = cc in omega arith))
-      (λ h. sym (long_text t (omega (arith, leb-false (length t) (length old) h))))
+  pub too_long : 24 ≤ length old → q ≡ None → NoDate ≡ date_of t
+  too_long l e = let h = no_room (length old) t (sym (ap bytes_of e) ∙ p.answer) in sym (long_text t (omega arith))
 
 -- ---- a file
 

@@ -14,7 +14,6 @@ use error::Refusal;
 use fetch::{refusal_of, text_bytes};
 use metadata::{ChemstationMetadata, Opened, open_header};
 use utf16::decode_utf16;
-use written::Written;
 
 // What is said of a file's date.
 #[derive(Clone, Copy)]
@@ -45,11 +44,9 @@ fn date_in(d: ChemstationMetadata, h: &[u8]) -> Date
         return date_of(bytes);
     }
     let mut text = [0u8; 96];
-    let t = decode_utf16(bytes, &mut text);
-    let written = t.answer;
-    match written {
-        Written::Bytes(n) => date_of(&text[..n]),
-        Written::NoRoom => Date::NoDate,
+    match decode_utf16(bytes, &mut text) {
+        Some(t) => date_of(&text[..t.bytes]),
+        None => Date::NoDate,
     }
 }
 

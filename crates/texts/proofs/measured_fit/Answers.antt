@@ -11,26 +11,26 @@ use Rattle.texts.specs.Eight.{texts_of, joined}
 use Rattle.texts.proofs.Joins.{none_before, eight, text_of_lem, counts, passes_by, all_before}
 use Rattle.texts.proofs.measured_fit.Goals as goal
 
-pub returns-in-NoRoom : goal.returns-in-NoRoom
-returns-in-NoRoom c =
+pub returns-in-None : goal.returns-in-None
+returns-in-None c =
     let ts = texts_of c.args.d.edition c.args.h.now in
     let h : c.loop-k.k < 8 = c.loop-k-test.true in
-    let w = no_room _ (text_of (field_of c.loop-k.k c.args.d.edition) c.args.h.now) (sym c.in-NoRoom.is ∙ c.text_length.ensures) in
+    let w = no_room _ (text_of (field_of c.loop-k.k c.args.d.edition) c.args.h.now) (sym c.in-None.is ∙ c.text_length.ensures) in
     sym (lt-leb _ _ (passes_by ts c.loop-k.n c.loop-k.k _ c.loop-k.invariant.0 (omega (arith, eight c.args.d.edition c.args.h.now, h)) (text_of_lem c.args.d.edition c.args.h.now c.loop-k.k h) c.args.room c.loop-k.invariant.1 w))
 
 pub overflow_add-n : goal.overflow_add-n
 overflow_add-n c =
-    let w = sym c.in-Bytes.is ∙ c.text_length.ensures in
-    record { fits = omega (arith, room_for (c.args.room - c.loop-k.n) (text_of (field_of c.loop-k.k c.args.d.edition) c.args.h.now) c.in-Bytes.m w, length_for (c.args.room - c.loop-k.n) (text_of (field_of c.loop-k.k c.args.d.edition) c.args.h.now) c.in-Bytes.m w, c.loop-k.invariant.1) }
+    let w = sym c.in-Some.is ∙ c.text_length.ensures in
+    record { fits = omega (arith, room_for (c.args.room - c.loop-k.n) (text_of (field_of c.loop-k.k c.args.d.edition) c.args.h.now) c.in-Some.m w, length_for (c.args.room - c.loop-k.n) (text_of (field_of c.loop-k.k c.args.d.edition) c.args.h.now) c.in-Some.m w, c.loop-k.invariant.1) }
 
 pub loop-k-preserved : goal.loop-k-preserved
 loop-k-preserved c =
     let ts = texts_of c.args.d.edition c.args.h.now in
     let h : c.loop-k.k < 8 = c.loop-k-test.true in
-    let w = sym c.in-Bytes.is ∙ c.text_length.ensures in
-    let e = length_for (c.args.room - c.loop-k.n) (text_of (field_of c.loop-k.k c.args.d.edition) c.args.h.now) c.in-Bytes.m w in (
+    let w = sym c.in-Some.is ∙ c.text_length.ensures in
+    let e = length_for (c.args.room - c.loop-k.n) (text_of (field_of c.loop-k.k c.args.d.edition) c.args.h.now) c.in-Some.m w in (
       counts ts c.loop-k.n c.loop-k.k _ c.loop-k.invariant.0 (omega (arith, eight c.args.d.edition c.args.h.now, h)) (text_of_lem c.args.d.edition c.args.h.now c.loop-k.k h) _ e,
-      omega (arith, room_for (c.args.room - c.loop-k.n) (text_of (field_of c.loop-k.k c.args.d.edition) c.args.h.now) c.in-Bytes.m w, e, c.loop-k.invariant.1),
+      omega (arith, room_for (c.args.room - c.loop-k.n) (text_of (field_of c.loop-k.k c.args.d.edition) c.args.h.now) c.in-Some.m w, e, c.loop-k.invariant.1),
       omega arith,
     )
 

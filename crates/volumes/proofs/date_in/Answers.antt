@@ -10,15 +10,15 @@ pub returns-then-d-le102 : goal.returns-then-d-le102
 returns-then-d-le102 c = c.date_of.ensures ∙ ap date_of (c.text_bytes-bytes.ensures.old c.if-d-le102.true)
 
 pub slice_bounds-text-end : goal.slice_bounds-text-end
-slice_bounds-text-end c = in_buffer _ _ _ _ c.decode_utf16-t.ensures.written _ c.in-Bytes.is
+slice_bounds-text-end c = in_buffer _ _ _ _ c.decode_utf16.ensures.written _ c.in-Some.is
 
 pub slice_bounds-date_of-end : goal.slice_bounds-date_of-end
-slice_bounds-date_of-end c = sym (length-take-le _ _ (in_buffer _ _ _ _ c.decode_utf16-t.ensures.written _ c.in-Bytes.is))
+slice_bounds-date_of-end c = sym (length-take-le _ _ (in_buffer _ _ _ _ c.decode_utf16.ensures.written _ c.in-Some.is))
 
-pub returns-in-Bytes : goal.returns-in-Bytes
-returns-in-Bytes c =
-    let t = the_text _ _ _ _ c.decode_utf16-t.ensures.written _ c.in-Bytes.is in
-    c.date_of-in-Bytes.ensures ∙ ap date_of (t ∙ c.text_bytes-bytes.ensures.new c.if-d-le102.false)
+pub returns-in-Some : goal.returns-in-Some
+returns-in-Some c =
+    let t = the_text _ _ _ _ c.decode_utf16.ensures.written _ c.in-Some.is in
+    c.date_of-in-Some.ensures ∙ ap date_of (t ∙ c.text_bytes-bytes.ensures.new c.if-d-le102.false)
 
-pub returns-in-NoRoom : goal.returns-in-NoRoom
-returns-in-NoRoom c = too_long _ _ _ _ c.decode_utf16-t.ensures.written (omega arith) c.in-NoRoom.is ∙ ap date_of (c.text_bytes-bytes.ensures.new c.if-d-le102.false)
+pub returns-in-None : goal.returns-in-None
+returns-in-None c = too_long _ _ _ _ c.decode_utf16.ensures.written (omega arith) c.in-None.is ∙ ap date_of (c.text_bytes-bytes.ensures.new c.if-d-le102.false)
