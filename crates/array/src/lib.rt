@@ -17,8 +17,6 @@ fn array_given(st: ChemstationArrayState, x: f64, n: usize) -> Result<Given, Sto
     requires { 0 < st.n_scans_left.0 }
     ensures { answer_of result ≡ got (stepped (sum_of (State.Array st)) (told (array_made st x) [])) n }
 {
-    let scans = st.n_scans_left.0;
-    let record_type = st.record_type;
     let cur_time = st.cur_time + st.time_step;
     let record = Record::Trace {
         time: cur_time,
@@ -26,12 +24,10 @@ fn array_given(st: ChemstationArrayState, x: f64, n: usize) -> Result<Given, Sto
         scaled: x * st.mult_correction,
     };
     let state = ChemstationArrayState {
-        record_type,
-        n_scans_left: Scans(scans - 1),
+        n_scans_left: Scans(st.n_scans_left.0 - 1),
         cur_time,
         cur_intensity: x,
-        time_step: st.time_step,
-        mult_correction: st.mult_correction,
+        ..st
     };
     Ok(Given {
         record,
@@ -44,12 +40,10 @@ fn array_given(st: ChemstationArrayState, x: f64, n: usize) -> Result<Given, Sto
 pub fn array_next(st: ChemstationArrayState, s: &[u8], last: bool) -> Result<Given, Stopped>
     ensures { answer_of result ≡ read last (rule_by (State.Array st) (array_rule st)) s.now }
 {
-    let scans = st.n_scans_left.0;
-    if scans == 0 {
+    if st.n_scans_left.0 == 0 {
         return Err(Stopped::Finished);
     }
-    let record_type = st.record_type;
-    match record_type {
+    match st.record_type {
         ChemstationArrayRecordType::Float32Array => {
             if s.len() < 4 {
                 return Err(cut(last));

@@ -10,21 +10,12 @@ ghost use Rattle.dad.specs.Dad.{width_of, dad_made, dad_point, dad_scan, dad_rul
 use common::{Endian, Number};
 use error::{Stopped, cut};
 use floats::minutes_of;
-use streams::{
-    Bytes, ChemstationDadState, Delta, Given, Record, Scans, State, changed_by, delta_at,
-};
+use streams::{Bytes, ChemstationDadState, Delta, Given, Record, Scans, State, delta_at};
 
 // Bytes of a scan's type, and of its head: type, length, time, start, end, step, and 8 that are passed over.
 const TYPE: usize = 2;
 
 const HEAD: usize = TYPE + 2 + 4 + 2 + 2 + 2 + 8;
-
-// a - b, not below 0.
-fn saturating_sub(a: usize, b: usize) -> usize
-    ensures { result ≡ a - b }
-{
-    if a < b { 0 } else { a - b }
-}
 
 // How many bytes a delta took.
 fn delta_width(d: Delta) -> usize
@@ -40,8 +31,8 @@ fn delta_width(d: Delta) -> usize
 fn dad_given(st: ChemstationDadState, d: Delta, n: usize) -> Result<Given, Stopped>
     ensures { answer_of result ≡ got (stepped (sum_of (State.Dad st)) (told (dad_made st d) (change_of d ∷ []))) n }
 {
-    let value = changed_by(st.cur_intensity, d);
-    let bytes = saturating_sub(st.n_bytes_left.0, delta_width(d));
+    let value = d.applied_to(st.cur_intensity);
+    let bytes = st.n_bytes_left.0.saturating_sub(delta_width(d));
     let record = Record::Spectrum {
         time: minutes_of(st.cur_time),
         wavelength: st.cur_wv / 20.0,
@@ -50,15 +41,10 @@ fn dad_given(st: ChemstationDadState, d: Delta, n: usize) -> Result<Given, Stopp
         minutes: st.stored_time / 60000,
         leftover: st.stored_time % 60000,
     };
-    let n_scans_left = st.n_scans_left;
     let state = ChemstationDadState {
-        n_scans_left,
         n_bytes_left: Bytes(bytes),
-        cur_time: st.cur_time,
         cur_intensity: value,
-        cur_wv: st.cur_wv,
-        wv_step: st.wv_step,
-        stored_time: st.stored_time,
+        ..st
     };
     Ok(Given {
         record,
@@ -90,7 +76,7 @@ fn dad_scan(st: ChemstationDadState, s: &[u8], last: bool) -> Result<Given, Stop
     if s.len() < HEAD {
         return Err(cut(last));
     }
-    let bytes = saturating_sub(u16::le_at(s, 2) as usize, HEAD);
+    let bytes = (u16::le_at(s, 2) as usize).saturating_sub(HEAD);
     if bytes == 0 {
         return Err(Stopped::Finished);
     }
@@ -111,22 +97,15 @@ fn dad_scan(st: ChemstationDadState, s: &[u8], last: bool) -> Result<Given, Stop
 pub fn dad_next(st: ChemstationDadState, s: &[u8], last: bool) -> Result<Given, Stopped>
     ensures { answer_of result ≡ read last (rule_by (State.Dad st) (dad_rule st)) s.now }
 {
-    let n_scans_left = st.n_scans_left;
-    if n_scans_left.0 == 0 {
+    if st.n_scans_left.0 == 0 {
         return Err(Stopped::Finished);
     }
-    let n_bytes_left = st.n_bytes_left;
-    if n_bytes_left.0 == 0 {
+    if st.n_bytes_left.0 == 0 {
         return dad_scan(st, s, last);
     }
     let state = ChemstationDadState {
-        n_scans_left,
-        n_bytes_left,
-        cur_time: st.cur_time,
-        cur_intensity: st.cur_intensity,
         cur_wv: st.cur_wv + st.wv_step,
-        wv_step: st.wv_step,
-        stored_time: st.stored_time,
+        ..st
     };
     dad_point(state, s, 0, last)
 }

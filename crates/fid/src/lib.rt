@@ -10,7 +10,7 @@ ghost use Rattle.fid.specs.Fid.{fid_made, fid_rule};
 
 use common::Number;
 use error::{Stopped, cut, ended};
-use streams::{ChemstationFidState, Given, State, trace_point};
+use streams::{ChemstationFidState, Given, Record, State};
 
 // Bytes of a delta, and of a restart: its mark, high and low.
 const DELTA: usize = 2;
@@ -22,14 +22,12 @@ fn fid_given(st: ChemstationFidState, slope: f64, value: f64, n: usize) -> Resul
     ensures { answer_of result ≡ got (item_of (fid_made st) (record { slope = slope; value = value })) n }
 {
     let cur_time = st.cur_time + st.time_step;
-    let record = trace_point(cur_time, value, st.mult_correction, st.offset_correction);
+    let record = Record::trace(cur_time, value, st.mult_correction, st.offset_correction);
     let state = ChemstationFidState {
         cur_time,
         cur_delta: slope,
         cur_intensity: value,
-        time_step: st.time_step,
-        mult_correction: st.mult_correction,
-        offset_correction: st.offset_correction,
+        ..st
     };
     Ok(Given {
         record,

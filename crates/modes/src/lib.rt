@@ -8,7 +8,7 @@ ghost use Rattle.modes.specs.Modes.{has_atlas, OpensBy, NotOpened};
 use error::{Refusal, Stopped};
 use metadata::blank;
 use opening::{OpenedRun, Opening, open_run};
-use streams::{Mode, atlas_of};
+use streams::Mode;
 
 // Whether there is such a kind.
 fn is_known(kind: u8) -> bool
@@ -59,7 +59,7 @@ pub fn open_atlas(kind: u8, s: &[u8], last: bool) -> OpenedRun
             metadata,
         },
         Opening::Run(st, n) => {
-            let atlas = atlas_of(st);
+            let atlas = st.in_atlas();
             OpenedRun {
                 answer: Opening::Run(atlas, n),
                 metadata,

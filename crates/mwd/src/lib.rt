@@ -9,7 +9,7 @@ ghost use Rattle.mwd.specs.Mwd.{mwd_made, mwd_point, mwd_rule};
 
 use common::{Endian, Number};
 use error::{Stopped, cut, ended};
-use streams::{ChemstationMwdState, Given, Points, State, changed_by, delta_at, trace_point};
+use streams::{ChemstationMwdState, Given, Points, Record, State, delta_at};
 
 // Bytes of a group's count of points.
 const GROUP: usize = 2;
@@ -24,14 +24,12 @@ fn mwd_given(
     ensures { answer_of result ≡ got (item_of (mwd_made st points) (flat doubles value)) n }
 {
     let cur_time = st.cur_time + st.time_step;
-    let record = trace_point(cur_time, value, st.mult_correction, st.offset_correction);
+    let record = Record::trace(cur_time, value, st.mult_correction, st.offset_correction);
     let state = ChemstationMwdState {
         n_wvs_left: points,
         cur_time,
         cur_intensity: value,
-        time_step: st.time_step,
-        mult_correction: st.mult_correction,
-        offset_correction: st.offset_correction,
+        ..st
     };
     Ok(Given {
         record,
@@ -53,7 +51,7 @@ fn mwd_point(
     ensures { answer_of result ≡ map_read (stepped (sum_of (State.Mwd st))) (read_at last (mwd_point st points) at s.now) }
 {
     let (d, n) = delta_at(Endian::Big, s, at, last)?;
-    mwd_given(st, Points(points.0 - 1), changed_by(st.cur_intensity, d), n)
+    mwd_given(st, Points(points.0 - 1), d.applied_to(st.cur_intensity), n)
 }
 
 // The next record of MWD.

@@ -56,7 +56,7 @@ pub fn log_records(
                 };
             }
             Ok(given) => {
-                sum = tally::add(sum, streams::unscaled_of(given.record));
+                sum = tally::add(sum, given.record.unscaled());
                 a = lines::put_record(out, a, given.record);
                 cur = given.state;
                 f += given.bytes;

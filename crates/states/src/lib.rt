@@ -9,7 +9,7 @@ ghost use Rattle.streams.specs.declared.State.TheVariants.{Fid, Ms, Mwd, Dad, Uv
 use streams::{
     Bytes, ChemstationArrayRecordType, ChemstationArrayState, ChemstationDadState,
     ChemstationFidState, ChemstationMsState, ChemstationMwdState, ChemstationUvState, Points,
-    Scans, State, atlas_of,
+    Scans, State,
 };
 
 // A state as numbers. Those of DAD and UV differ between the readings by the reading alone.
@@ -286,7 +286,7 @@ impl Stored {
 fn atlas_kept(plain: Option<State>) -> Option<State>
     ensures { result ≡ atlas_kept plain }
 {
-    match atlas_of(plain?) {
+    match plain?.in_atlas() {
         st @ (State::AtlasDad(_) | State::AtlasUv(_)) => Some(st),
         _ => None,
     }

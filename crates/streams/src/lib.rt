@@ -158,19 +158,16 @@ pub enum Mode {
     Atlas,
 }
 
-// The state of the atlas reading at the place of a plain one; a kind without such a reading keeps its own.
-pub fn atlas_of(st: State) -> State
-    ensures { result ≡ atlas_of st }
-{
-    match st {
-        State::Dad(d) => State::AtlasDad(d),
-        State::Uv(u) => State::AtlasUv(u),
-        State::Fid(_) => st,
-        State::Ms(_) => st,
-        State::Mwd(_) => st,
-        State::Array(_) => st,
-        State::AtlasDad(_) => st,
-        State::AtlasUv(_) => st,
+impl State {
+    // The state of the atlas reading at the place of a plain one; a kind without such a reading keeps its own.
+    pub fn in_atlas(self) -> State
+        ensures { result ≡ atlas_of self }
+    {
+        match self {
+            State::Dad(d) => State::AtlasDad(d),
+            State::Uv(u) => State::AtlasUv(u),
+            _ => self,
+        }
     }
 }
 
@@ -182,27 +179,27 @@ pub struct Given {
     pub bytes: usize,
 }
 
-// A record's unscaled intensity.
-pub fn unscaled_of(r: Record) -> f64
-    ensures { result ≡ unscaled_of r }
-{
-    match r {
-        Record::Trace { unscaled, .. } => unscaled,
-        Record::Mass { unscaled, .. } => unscaled,
-        Record::Spectrum { unscaled, .. } => unscaled,
+impl Record {
+    // FID and MWD, the record of a value: it is multiplied by the correction, then the offset added.
+    pub fn trace(time: f64, value: f64, mult: f64, offset: f64) -> Record
+        ensures { result ≡ Record.Trace time value (corrected mult offset value) }
+    {
+        Record::Trace {
+            time,
+            unscaled: value,
+            scaled: value * mult + offset,
+        }
     }
-}
 
-// ---- FID and MWD: a trace point
-
-// The record of a value: it is multiplied by the correction, then the offset added.
-pub fn trace_point(time: f64, value: f64, mult: f64, offset: f64) -> Record
-    ensures { result ≡ Record.Trace time value (corrected mult offset value) }
-{
-    Record::Trace {
-        time,
-        unscaled: value,
-        scaled: value * mult + offset,
+    // Its unscaled intensity.
+    pub fn unscaled(self) -> f64
+        ensures { result ≡ unscaled_of self }
+    {
+        match self {
+            Record::Trace { unscaled, .. }
+            | Record::Mass { unscaled, .. }
+            | Record::Spectrum { unscaled, .. } => unscaled,
+        }
     }
 }
 
@@ -213,6 +210,18 @@ pub fn trace_point(time: f64, value: f64, mult: f64, offset: f64) -> Record
 pub enum Delta {
     By(i16),
     Absolute(i32),
+}
+
+impl Delta {
+    // The value after it.
+    pub fn applied_to(self, value: f64) -> f64
+        ensures { result ≡ (changed doubles (flat doubles value) (change_of self)).value }
+    {
+        match self {
+            Delta::By(v) => value + f64::from(v),
+            Delta::Absolute(z) => f64::from(z),
+        }
+    }
 }
 
 // The delta at a position and the position after it, or why there is none.
@@ -231,14 +240,4 @@ pub fn delta_at(order: Endian, s: &[u8], at: usize, last: bool) -> Result<(Delta
         return Err(error::cut(last));
     }
     Ok((Delta::Absolute(i32::in_order(order, s, at + 2)), at + 6))
-}
-
-// The value after a delta.
-pub fn changed_by(value: f64, d: Delta) -> f64
-    ensures { result ≡ (changed doubles (flat doubles value) (change_of d)).value }
-{
-    match d {
-        Delta::By(v) => value + f64::from(v),
-        Delta::Absolute(z) => f64::from(z),
-    }
 }

@@ -10,7 +10,7 @@ ghost use Rattle.uv.specs.Uv.{uv_made, uv_point, uv_begun, uv_scan, uv_left, uv_
 use common::{Endian, Number};
 use error::{Refusal, Stopped, cut};
 use floats::minutes_of;
-use streams::{ChemstationUvState, Given, Points, Record, Scans, State, changed_by, delta_at};
+use streams::{ChemstationUvState, Given, Points, Record, Scans, State, delta_at};
 
 // Bytes of a scan's head: 4 that are passed over, time, start and end; then its step; then 8 more that are passed over.
 const RANGE: usize = 4 + 4 + 2 + 2;
@@ -33,16 +33,12 @@ fn uv_given(st: ChemstationUvState, scans: Scans, value: f64, n: usize) -> Resul
         minutes: st.stored_time / 60000,
         leftover: st.stored_time % 60000,
     };
-    let points = st.n_wvs_left.0;
     let state = ChemstationUvState {
         n_scans_left: scans,
-        n_wvs_left: Points(points - 1),
-        cur_time: st.cur_time,
+        n_wvs_left: Points(st.n_wvs_left.0 - 1),
         cur_intensity: value,
         cur_wv,
-        wv_step: st.wv_step,
-        mult_correction: st.mult_correction,
-        stored_time: st.stored_time,
+        ..st
     };
     Ok(Given {
         record,
@@ -64,7 +60,7 @@ fn uv_point(
     ensures { answer_of result ≡ map_read (stepped (sum_of (State.Uv st))) (read_at last (uv_point st scans []) at s.now) }
 {
     let (d, n) = delta_at(Endian::Little, s, at, last)?;
-    uv_given(st, scans, changed_by(st.cur_intensity, d), n)
+    uv_given(st, scans, d.applied_to(st.cur_intensity), n)
 }
 
 // A new scan, before its first point: a step behind it, with value 0.
@@ -79,19 +75,17 @@ fn uv_begun(
     requires step_nonzero { 0 < step }
     ensures { result ≡ uv_begun st time start end step }
 {
-    let n_scans_left = st.n_scans_left;
     let points = (end - start) / step;
     let wv_step = f64::from(step) / 20.0;
     let cur_wv = f64::from(start) / 20.0 - wv_step;
     ChemstationUvState {
-        n_scans_left,
         n_wvs_left: Points(points as usize + 1),
         cur_time: minutes_of(f64::from(time)),
         cur_intensity: 0.0,
         cur_wv,
         wv_step,
-        mult_correction: st.mult_correction,
         stored_time: time,
+        ..st
     }
 }
 
@@ -119,8 +113,7 @@ fn uv_scan(st: ChemstationUvState, s: &[u8], last: bool) -> Result<Given, Stoppe
         return Err(cut(last));
     }
     let begun = uv_begun(st, time, start, end, step);
-    let scans = st.n_scans_left;
-    uv_point(begun, scans, s, HEAD, last)
+    uv_point(begun, st.n_scans_left, s, HEAD, last)
 }
 
 // The scans due after a later point of a scan: one whose first point is its last is never debited.
@@ -130,9 +123,10 @@ fn scans_left(st: ChemstationUvState) -> Scans
 {
     let scans = st.n_scans_left;
     if st.n_wvs_left.0 == 1 {
-        return Scans(scans.0 - 1);
+        Scans(scans.0 - 1)
+    } else {
+        scans
     }
-    scans
 }
 
 // The next record of UV.

@@ -22,4 +22,4 @@ returns-in-Stopped c =
 pub returns-in-Run : goal.returns-in-Run
 returns-in-Run c =
     opened_by_lem c.args.kind c.args.last c.args.s.now c.open_run-o.result _ _ (sym c.is_known.ensures ∙ not-false _ c.if-not-is_known.false-raw) (sym c.has_atlas.ensures ∙ not-false _ c.if-not-has_atlas.false-raw)
-    c.open_run-o.ensures c.in-Run.is (ap (λ st. Run st c.in-Run.n) c.atlas_of-atlas.ensures) refl
+    c.open_run-o.ensures c.in-Run.is (ap (λ st. Run st c.in-Run.n) c.in_atlas-atlas.ensures) refl

@@ -33,7 +33,7 @@ loop-out-preserved c =
       plus t (unscaled_of r),
       logging_more _ _ _ _ _ _ _ _ _ _ _ _ _ _ _ _ _ _ c.loop-out.invariant.1 (omega arith) q c.put_record-a.ensures.put,
       subst (λ (s : Tally). StandsFor s (plus t (unscaled_of r))) (sym c.add-sum.ensures)
-          (subst (λ (v : Float). StandsFor (added_to c.loop-out.sum v) (plus t (unscaled_of r))) (sym c.unscaled_of.ensures) (adds c.loop-out.sum t (unscaled_of r) c.loop-out.invariant.2)),
+          (subst (λ (v : Float). StandsFor (added_to c.loop-out.sum v) (plus t (unscaled_of r))) (sym c.unscaled.ensures) (adds c.loop-out.sum t (unscaled_of r) c.loop-out.invariant.2)),
     )
 
 pub overflow_add-f : goal.overflow_add-f
