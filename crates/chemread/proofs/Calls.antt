@@ -33,8 +33,7 @@ use Rattle.states.specs.State.{numbers_of, counts_of, reading_of, state_by}
 use Rattle.states.proofs.States.{keeps_states, kept_reading}
 use Rattle.states.proofs.Readings.{reading_stays}
 use Rattle.chemread.specs.Answers.{outcome_number}
-use Rattle.chemread.specs.Lent.{Run, reading_number, opened_as, OpensInto, size_after, FetchesInto, TextsInto, Filling, FillsInto, SumsInto, DatesInto}
-use Rattle.volumes.specs.Volume.{Told}
+use Rattle.chemread.specs.Lent.{Run, reading_number, opened_as, OpensInto, size_after, FetchesInto, TextsInto, Filling, FillsInto, SumsInto}
 use Rattle.chemread.proofs.Begun.{begun}
 
 -- ---- Open
@@ -121,7 +120,3 @@ fills_nothing reading s last old e = record { answer = rw e; memory = rw e; stat
 -- the same total, said otherwise
 pub sums_into : {s t : Total} {r : ℕ} {old new : ℤ} → s ≡ t → SumsInto s r old new → SumsInto t r old new
 sums_into {r = r} {old} {new} e i = subst (λ x. SumsInto x r old new) e i
-
--- the same date, said otherwise
-pub dates_into : {s t : Told} {r old new : ℕ} → s ≡ t → DatesInto s r old new → DatesInto t r old new
-dates_into {r = r} {old} {new} e i = subst (λ x. DatesInto x r old new) e i

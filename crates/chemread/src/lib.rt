@@ -22,7 +22,7 @@ use reader::Closing;
 use states::Stored;
 use streams::Mode;
 use sums::Total;
-use volumes::{Placed, RunDate};
+use volumes::Placed;
 
 // ---- answers as numbers
 
@@ -316,9 +316,9 @@ pub extern "C" fn chemstation_date(kind: u8, s: &[u8], instant: &mut u32) -> u8
     ensures { DatesInto (run_date kind s.now) result instant.old instant.new }
 {
     match volumes::run_date(kind, s) {
-        RunDate::Refused(r) => error::number_of(r),
-        RunDate::NoDate => NO_DATE,
-        RunDate::Instant(i) => {
+        Err(r) => error::number_of(r),
+        Ok(None) => NO_DATE,
+        Ok(Some(i)) => {
             *instant = i;
             GIVEN
         }
@@ -331,9 +331,9 @@ pub extern "C" fn chemstation_window(kind: u8, s: &[u8], start: u32, end: u32) -
     ensures { result ≡ place_number (placed start end kind s.now) }
 {
     match volumes::in_window(start, end, kind, s) {
-        Placed::Refused(r) => error::number_of(r),
-        Placed::Undated => NO_DATE,
-        Placed::Inside => IN_WINDOW,
-        Placed::Outside => OUT_OF_WINDOW,
+        Err(r) => error::number_of(r),
+        Ok(Placed::Undated) => NO_DATE,
+        Ok(Placed::Inside) => IN_WINDOW,
+        Ok(Placed::Outside) => OUT_OF_WINDOW,
     }
 }

@@ -20,7 +20,6 @@ use Rattle.metadata.specs.Metadata.{Header, open_rule}
 use Rattle.fetch.specs.Fetch.{number_of_stop}
 use Rattle.fetch.proofs.Fetches.{text_in, fetch_reads}
 use Rattle.dates.specs.Dates.{date_of}
-use Rattle.dates.specs.declared.Date.TheVariants.{NoDate}
 use Rattle.dates.proofs.Forms.{long_text}
 use Rattle.volumes.specs.Volume.{told, told_by, refuse, run_date}
 
@@ -42,7 +41,7 @@ module _ (q : Option Recoded) (old new t : List ℕ) (p : Puts (bytes_of q) old 
   the_text r e = (all_written r e).1
 
   -- what has no room in 24 bytes or more is no date
-  pub too_long : 24 ≤ length old → q ≡ None → NoDate ≡ date_of t
+  pub too_long : 24 ≤ length old → q ≡ None → None ≡ date_of t
   too_long l e = let h = no_room (length old) t (sym (ap bytes_of e) ∙ p.answer) in sym (long_text t (omega arith))
 
 -- ---- a file

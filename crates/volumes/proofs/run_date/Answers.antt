@@ -21,4 +21,4 @@ returns-in-Stopped c =
 
 pub returns-in-Header : goal.returns-in-Header
 returns-in-Header c =
-    c.answer_of.ensures ∙ ap told c.date_in.ensures ∙ tells_date _ _ _ _ (read_opened _ _ _ _ c.open_header-o.ensures c.in-Header.is)
+    ap told c.date_in.ensures ∙ tells_date _ _ _ _ (read_opened _ _ _ _ c.open_header-o.ensures c.in-Header.is)
