@@ -12,5 +12,5 @@ returns-then-s-at-lt-HEAD c v =
 
 pub returns : goal.returns
 returns c v =
-    rw (c.ms_point.ensures v, c.requires.3, c.minutes_of-time.ensures, c.from.ensures, c.be_at-stored.ensures)
+    rw (c.ms_point.ensures v, c.requires.3, c.minutes_of.ensures, c.from.ensures, c.be_at-stored_time.ensures)
     (ap (map_read (stepped v)) (sym (filled_point c.args.scans.0 (omega arith) c.args.last c.args.at c.args.s.now (omega arith) (omega arith) (omega arith))))
