@@ -9,7 +9,7 @@ ghost use Rattle.array.specs.Array.{array_made, array_rule};
 
 use common::Number;
 use error::{Stopped, cut};
-use floats::{f64_from_bits, f64_from_f32_bits};
+use floats::FromPattern;
 use streams::{ChemstationArrayRecordType, ChemstationArrayState, Given, Record, Scans, State};
 
 // The record of a stored number, one scan fewer and a time step later.
@@ -48,13 +48,13 @@ pub fn array_next(st: ChemstationArrayState, s: &[u8], last: bool) -> Result<Giv
             if s.len() < 4 {
                 return Err(cut(last));
             }
-            array_given(st, f64_from_f32_bits(u32::le_at(s, 0)), 4)
+            array_given(st, f64::from_pattern(u32::le_at(s, 0)), 4)
         }
         ChemstationArrayRecordType::Float64Array => {
             if s.len() < 8 {
                 return Err(cut(last));
             }
-            array_given(st, f64_from_bits(u64::le_at(s, 0)), 8)
+            array_given(st, f64::from_pattern(u64::le_at(s, 0)), 8)
         }
     }
 }

@@ -7,6 +7,8 @@ ghost use Rattle.std.specs.Float.{binary32, binary64};
 ghost use Rattle.floats.specs.Doubles.{minutes, bits_of, scan_count_of};
 ghost use Rattle.floats.specs.Wholes.{ExactSums};
 
+use std::num::{f32_from_bits_with_nan, f64_from_bits_with_nan, truncating_f64_to_u64};
+
 // ---- times
 
 // A stored time, in thousandths of a second, as minutes.
@@ -18,25 +20,30 @@ pub fn minutes_of(x: f64) -> f64
 
 // ---- bit patterns
 
-// Rust's f64::from_bits. Rattle's is undefined at a NaN's pattern, which is above infinity's but for the sign.
-pub fn f64_from_bits(bits: u64) -> f64
-    ensures { result ≡ from_bits binary64 bits }
-{
-    if bits % 0x8000_0000_0000_0000 > 0x7ff0_0000_0000_0000 {
-        0.0 / 0.0
-    } else {
-        f64::from_bits(bits)
+// A double from a stored number's bits.
+pub trait FromPattern<B>: Sized {
+    // the number of these bits
+    ghost number: { B → Self };
+
+    // A NaN's pattern gives a NaN. Rust's `from_bits`, which Rattle's is only of the other patterns.
+    fn from_pattern(bits: B) -> Self
+        ensures { result ≡ number bits };
+}
+
+impl FromPattern<u64> for f64 {
+    ghost number = { λ bits. from_bits binary64 bits };
+
+    fn from_pattern(bits: u64) -> f64 {
+        f64_from_bits_with_nan(bits)
     }
 }
 
-// A single, widened: Rust's f32::from_bits(bits) as f64.
-pub fn f64_from_f32_bits(bits: u32) -> f64
-    ensures { result ≡ from_bits binary32 bits }
-{
-    if bits % 0x8000_0000 > 0x7f80_0000 {
-        0.0 / 0.0
-    } else {
-        f32::from_bits(bits) as f64
+// A single, widened: exact.
+impl FromPattern<u32> for f64 {
+    ghost number = { λ bits. from_bits binary32 bits };
+
+    fn from_pattern(bits: u32) -> f64 {
+        f64::from(f32_from_bits_with_nan(bits))
     }
 }
 
@@ -57,7 +64,7 @@ pub fn scan_count(quotient: f64) -> Option<usize>
         return None;
     }
     if quotient >= 1.0 {
-        let whole = std::num::truncating_f64_to_u64(quotient);
+        let whole = truncating_f64_to_u64(quotient);
         return Some(1 + whole as usize);
     }
     Some(1)
@@ -66,6 +73,7 @@ pub fn scan_count(quotient: f64) -> Option<usize>
 // ---- sums of whole numbers
 
 // Nothing to compute: the contract is the theorem that sums of whole numbers in doubles are exact.
+#[tactic(auto, using(crate::proofs::Running::exact_sums))]
 pub fn exact_sums()
     ensures { ExactSums }
 {}

@@ -13,7 +13,7 @@ ghost use Rattle.metadata.specs.Remaining.{after_minimum, OpensWhole};
 use agilent::read_agilent_header;
 use common::Number;
 use error::{Refusal, Stopped};
-use floats::{f64_from_bits, f64_from_f32_bits, minutes_of, scan_count};
+use floats::{FromPattern, minutes_of, scan_count};
 use layouts::{Clock, Layout, field_in, layout_of};
 use pascal::{TextPlace, text_place};
 
@@ -62,7 +62,7 @@ fn time_at(h: &[u8], clock: Clock, at: usize) -> f64
     match clock {
         Clock::Nowhere => 0.0,
         Clock::Whole => minutes_of(f64::from(i32::be_at(h, at))),
-        Clock::Single => minutes_of(f64_from_f32_bits(u32::be_at(h, at))),
+        Clock::Single => minutes_of(f64::from_pattern(u32::be_at(h, at))),
     }
 }
 
@@ -73,7 +73,7 @@ fn double_at(h: &[u8], at: usize, other: f64) -> f64
     if at == 0 {
         return other;
     }
-    f64_from_bits(u64::be_at(h, at))
+    f64::from_pattern(u64::be_at(h, at))
 }
 
 // ---- the description

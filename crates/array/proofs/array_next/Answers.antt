@@ -19,10 +19,10 @@ returns-then-s-lt8 c =
 
 pub returns-else-s-lt4 : goal.returns-else-s-lt4
 returns-else-s-lt4 c =
-    rw (c.array_given.ensures, c.f64_from_f32_bits.ensures, c.le_at.ensures)
+    rw (c.array_given.ensures, c.from_pattern.ensures, c.le_at.ensures)
     (sym (array_gives c.args.st c.args.last c.args.s.now 4 _ c.if-st-eq0.false (ap stored c.in-Float32Array.is) (omega arith)))
 
 pub returns-else-s-lt8 : goal.returns-else-s-lt8
 returns-else-s-lt8 c =
-    rw (c.array_given-in-Float64Array.ensures, c.f64_from_bits.ensures, c.le_at-in-Float64Array.ensures)
+    rw (c.array_given-in-Float64Array.ensures, c.from_pattern-in-Float64Array.ensures, c.le_at-in-Float64Array.ensures)
     (sym (array_gives c.args.st c.args.last c.args.s.now 8 _ c.if-st-eq0.false (ap stored c.in-Float64Array.is) (omega arith)))

@@ -8,4 +8,4 @@ pub returns-then-at-eq0 : goal.returns-then-at-eq0
 returns-then-at-eq0 c = rw (eq-eqb _ 0 c.if-at-eq0.true) refl
 
 pub returns : goal.returns
-returns c = rw (ne_eqb _ 0 c.if-at-eq0.false) (c.f64_from_bits.ensures ∙ ap (of_bits binary64) c.be_at.ensures)
+returns c = rw (ne_eqb _ 0 c.if-at-eq0.false) (c.from_pattern.ensures ∙ ap (of_bits binary64) c.be_at.ensures)

@@ -22,5 +22,5 @@ returns-in-Whole c =
 pub returns-in-Single : goal.returns-in-Single
 returns-in-Single c =
     c.minutes_of-in-Single.ensures
-    ∙ ap minutes (c.f64_from_f32_bits.ensures ∙ ap (of_bits binary32) c.be_at-in-Single.ensures)
+    ∙ ap minutes (c.from_pattern.ensures ∙ ap (of_bits binary32) c.be_at-in-Single.ensures)
     ∙ ap (λ k. time_at k c.args.at c.args.h.now) (sym c.in-Single.is)
