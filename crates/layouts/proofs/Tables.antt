@@ -1,8 +1,8 @@
 -- Each field lies within its edition's minimum, and suits its edition: computed over all rows at once.
-use mathlib.Core.Path.{◌≡◌, refl, sym, ap, ap₂, ◌∙◌}
-use mathlib.Core.Bool.{Bool, true, false, cond, ◌&&◌, ◌||◌, and-eq-true_iff, false≢true}
+use mathlib.Core.Path.{◌≡◌, refl, sym, ap, ◌∙◌}
+use mathlib.Core.Bool.{Bool, true, false, ◌&&◌, ◌||◌, and-eq-true_iff, false≢true}
 use mathlib.Core.List.{List, [], ◌∷◌, map}
-use Prim.Native.Nat.{ℕ, zero, suc, ◌+◌, ◌≤◌, ◌<◌}
+use Prim.Native.Nat.{ℕ, zero, suc, ◌≤◌, ◌<◌}
 use native.Mathlib.Omega.{arith}
 use lib.Dec.{leb, ltb, eqb}
 use lib.ListN.{get_or, get_or-eq_default, get_or-map}
@@ -110,3 +110,8 @@ field_suits k e = field_all suits (λ e. refl) refl k e
 pub field_lies : (k e : ℕ) → reach (field_of k e) ≤ look 0 minima e
 unfolding field_of texts minima editions
 field_lies k e = leb-true _ _ (field_all lies (λ e. le-leb 0 (look 0 minima e) (omega arith)) refl k e)
+
+-- the fields of an edition, by the numbers of its texts less one
+pub field_at : (k e : ℕ) → get_or (map (λ t. look Absent t e) texts) k Absent ≡ field_of k e
+unfolding field_of
+field_at k e = get_or-map (λ t. look Absent t e) texts k []

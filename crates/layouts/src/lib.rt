@@ -52,6 +52,14 @@ impl TryFrom<u32> for Edition {
     }
 }
 
+impl From<Edition> for u32 {
+    ghost from_gives = { λ e n. n ≡ edition_number e };
+
+    fn from(edition: Edition) -> u32 {
+        edition as u32
+    }
+}
+
 impl Edition {
     // The smallest size of a header, in bytes.
     #[tactic(auto, unfolding(crate::specs::Table::minima))]
