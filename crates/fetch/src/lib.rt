@@ -13,7 +13,7 @@ ghost use Rattle.fetch.specs.declared.Fetched.TheVariants.{Refused};
 ghost use Rattle.fetch.specs.Fetch.{text_of, fetch_rule, number_of_stop, outcome_of, Fetches, replaced_in, passed_on, passed};
 
 use error::{Refusal, Stopped};
-use metadata::{ChemstationMetadata, Opened, open_header};
+use metadata::{ChemstationMetadata, open_header};
 use utf16::decode_utf16;
 use written::copy_text;
 
@@ -139,16 +139,12 @@ pub fn fetch_text(kind: u8, number: u8, s: &[u8], out: &mut [u8]) -> FetchedText
     if !in_range(8, number) {
         return refused(Refusal::UnknownText);
     }
-    let o = open_header(kind, s, true);
-    let answer = o.answer;
+    let answer = open_header(kind, s, true);
     match answer {
-        Opened::Stopped(z) => refused(refusal_of(z)),
-        Opened::Header {
-            size,
-            scans: _,
-            time_step: _,
-        } => {
+        Err(z) => refused(refusal_of(z)),
+        Ok(o) => {
             let d = o.metadata;
+            let size = d.size;
             let k = (number - 1) as usize;
             fetch_from(d, k, &s[..size], out)
         }

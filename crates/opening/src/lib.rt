@@ -6,7 +6,7 @@ ghost use Rattle.common.specs.Bytes.{part};
 ghost use Rattle.opening.specs.Opening.{same_bytes, record_type, fid_begins, ms_begins, mwd_begins, dad_begins, uv_begins, array_begins, begins, OpensRun};
 
 use error::Stopped;
-use metadata::{ChemstationMetadata, Opened, open_header};
+use metadata::{ChemstationMetadata, blank, open_header};
 use streams::{
     Bytes, ChemstationArrayRecordType, ChemstationArrayState, ChemstationDadState,
     ChemstationFidState, ChemstationMsState, ChemstationMwdState, ChemstationUvState, Points,
@@ -173,20 +173,16 @@ fn first_state(kind: u8, h: &[u8], d: ChemstationMetadata, scans: Scans, step: f
 pub fn open_run(kind: u8, s: &[u8], last: bool) -> OpenedRun
     ensures { OpensRun kind last s.now result }
 {
-    let o = open_header(kind, s, last);
-    let metadata = o.metadata;
-    let answer = o.answer;
+    let answer = open_header(kind, s, last);
     match answer {
-        Opened::Stopped(z) => OpenedRun {
+        Err(z) => OpenedRun {
             answer: Opening::Stopped(z),
-            metadata,
+            metadata: blank(),
         },
-        Opened::Header {
-            size,
-            scans,
-            time_step,
-        } => {
-            let st = first_state(kind, &s[0..size], metadata, Scans(scans), time_step);
+        Ok(o) => {
+            let metadata = o.metadata;
+            let size = metadata.size;
+            let st = first_state(kind, &s[0..size], metadata, Scans(o.scans), o.time_step);
             OpenedRun {
                 answer: Opening::Run(st, size),
                 metadata,

@@ -6,7 +6,7 @@ ghost use Rattle.std.specs.Prelude.{◌+◌, ◌*◌, ◌≤◌, ◌<◌, ◌≡
 use common::Number;
 use error::Stopped;
 use fetch::{Fetched, fetch_text};
-use metadata::{ChemstationMetadata, Opened};
+use metadata::ChemstationMetadata;
 use opening::Opening;
 use reader::Closing;
 use std::io::{Read, Write};
@@ -134,15 +134,10 @@ fn header_case<W: Write>(kind: u8, s: &[u8], output: &mut W, out: &mut [u8], at:
     requires { (at + 4096 ≤ length out.old) × (32768 ≤ length out.old) }
     ensures { result ≤ length out.old }
 {
-    let o = metadata::open_header(kind, s, true);
-    let answer = o.answer;
+    let answer = metadata::open_header(kind, s, true);
     match answer {
-        Opened::Stopped(z) => lines::put_end(out, at, z, 0),
-        Opened::Header {
-            size: _,
-            scans: _,
-            time_step: _,
-        } => {
+        Err(z) => lines::put_end(out, at, z, 0),
+        Ok(o) => {
             let d = o.metadata;
             let a = put_description(out, at, d);
             put_texts(kind, s, output, out, a)

@@ -15,7 +15,7 @@ ghost use Rattle.texts.specs.Eight.{texts_of, eight_rule, joined, Texts, lent_te
 
 use error::Refusal;
 use fetch::{Fetched, length_of, refusal_of, text_bytes};
-use metadata::{ChemstationMetadata, Opened, open_header};
+use metadata::{ChemstationMetadata, open_header};
 use utf16::{Recoded, measured, recode};
 
 // The answer, and beside it how many units of each text were replaced by U+FFFD: 0s where they are refused.
@@ -190,16 +190,12 @@ pub fn fetch_texts(
     ensures texts { FetchesAll result.answer (lent_texts out starts lengths) (read true (eight_rule kind) s.now) }
     ensures replaced { result.replaced ≡ all_passed kind out.old s.now }
 {
-    let o = open_header(kind, s, true);
-    let answer = o.answer;
+    let answer = open_header(kind, s, true);
     match answer {
-        Opened::Stopped(z) => refused(refusal_of(z)),
-        Opened::Header {
-            size,
-            scans: _,
-            time_step: _,
-        } => {
+        Err(z) => refused(refusal_of(z)),
+        Ok(o) => {
             let d = o.metadata;
+            let size = d.size;
             fetch_all(d, &s[..size], out, starts, lengths)
         }
     }

@@ -12,7 +12,7 @@ ghost use Rattle.volumes.specs.Volume.{told, run_date, date_told, place_of, wher
 use dates::date_of;
 use error::Refusal;
 use fetch::{refusal_of, text_bytes};
-use metadata::{ChemstationMetadata, Opened, open_header};
+use metadata::{ChemstationMetadata, open_header};
 use utf16::decode_utf16;
 
 // Where a file's date lies, of a window.
@@ -45,16 +45,12 @@ fn date_in(d: ChemstationMetadata, h: &[u8]) -> Option<u32>
 pub fn run_date(kind: u8, s: &[u8]) -> Result<Option<u32>, Refusal>
     ensures { date_told result ≡ run_date kind s.now }
 {
-    let o = open_header(kind, s, true);
-    let answer = o.answer;
+    let answer = open_header(kind, s, true);
     match answer {
-        Opened::Stopped(z) => Err(refusal_of(z)),
-        Opened::Header {
-            size,
-            scans: _,
-            time_step: _,
-        } => {
+        Err(z) => Err(refusal_of(z)),
+        Ok(o) => {
             let d = o.metadata;
+            let size = d.size;
             Ok(date_in(d, &s[..size]))
         }
     }
