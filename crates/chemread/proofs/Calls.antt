@@ -27,7 +27,6 @@ use Rattle.opening.specs.declared.Opening.{Opening}
 use Rattle.opening.specs.declared.Opening.TheVariants as opening
 use Rattle.opening.specs.declared.OpenedRun.{OpenedRun}
 use Rattle.reader.specs.declared.Filled.{Filled}
-use Rattle.sums.specs.declared.Total.{Total}
 use Rattle.streams.specs.Next.{stored_of}
 use Rattle.states.specs.State.{numbers_of, counts_of, reading_of, state_by}
 use Rattle.states.proofs.States.{keeps_states, kept_reading}
@@ -35,6 +34,7 @@ use Rattle.states.proofs.Readings.{reading_stays}
 use Rattle.chemread.specs.Answers.{outcome_number}
 use Rattle.chemread.specs.Lent.{Run, reading_number, opened_as, OpensInto, size_after, FetchesInto, TextsInto, Filling, FillsInto, SumsInto}
 use Rattle.chemread.proofs.Begun.{begun}
+use Rattle.sums.specs.Sums.{AnyTotal}
 
 -- ---- Open
 
@@ -118,5 +118,5 @@ fills_nothing reading s last old e = record { answer = rw e; memory = rw e; stat
 -- ---- the sum of a column
 
 -- the same total, said otherwise
-pub sums_into : {s t : Total} {r : ℕ} {old new : ℤ} → s ≡ t → SumsInto s r old new → SumsInto t r old new
+pub sums_into : {s t : AnyTotal} {r : ℕ} {old new : ℤ} → s ≡ t → SumsInto s r old new → SumsInto t r old new
 sums_into {r = r} {old} {new} e i = subst (λ x. SumsInto x r old new) e i

@@ -1,5 +1,5 @@
 -- What the lent memory holds after each call, by the definitions of Open, Fetch a text, Fill columns, totals and run dates.
-use Rattle.std.specs.Prelude.{◌≡◌, Bool, List, [], ◌∷◌, ℕ, length, ℤ, Float, Option, Some, None}
+use Rattle.std.specs.Prelude.{◌≡◌, Bool, List, [], ◌∷◌, ℕ, length, ℤ, Float, Option, Some, None, Ok, Err}
 use denote.Triple.Both.{Both}
 use Rattle.rules.specs.Rule.{Read, got, stops, map_read}
 use Rattle.rules.specs.Calls.{Reading}
@@ -16,10 +16,9 @@ use Rattle.reader.specs.Columns.{Columns, Lent, columns_with, fill_of}
 use Rattle.streams.specs.Next.{stored_of}
 use Rattle.states.specs.State.{numbers_of, counts_of, state_by}
 use Rattle.error.specs.Number.{closing_number}
-use Rattle.sums.specs.declared.Total.{Total}
-use Rattle.sums.specs.declared.Total.TheVariants.{Absent, Amount, Refused}
 use Rattle.chemread.specs.Answers.{read_number, outcome_number, total_number, told_number}
 use Rattle.volumes.specs.Volume.{Told, instant, no_date, refuse as refuse_date}
+use Rattle.sums.specs.Sums.{AnyTotal}
 
 -- ---- Open
 
@@ -152,13 +151,13 @@ pub record FillsInto (reading : ℕ) (s : List ℕ) (last : Bool) (r : ℕ) (m :
 -- ---- the sum of a column
 
 -- a sum that was given; else nothing is written
-abbrev pub sum_after : Total → ℤ → ℤ
-sum_after Absent old = old
-sum_after (Amount z) old = z
-sum_after (Refused c) old = old
+abbrev pub sum_after : AnyTotal → ℤ → ℤ
+sum_after None old = old
+sum_after (Some (Ok z)) old = z
+sum_after (Some (Err c)) old = old
 
 -- the answer r and the lent sum before and after, by what the values add up to on top of it
-pub record SumsInto (t : Total) (r : ℕ) (old new : ℤ) : Type 0 where
+pub record SumsInto (t : AnyTotal) (r : ℕ) (old new : ℤ) : Type 0 where
   pub answer : r ≡ total_number t
   pub memory : new ≡ sum_after t old
 

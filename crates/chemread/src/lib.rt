@@ -1,7 +1,7 @@
 // Open, Fetch a text, all texts at once, Fill columns, the sum of a column, the run date and windows of time for C: include/chemstation.h declares them.
 #![tactic(auto)]
 
-ghost use Rattle.std.specs.Prelude.{◌≡◌, true};
+ghost use Rattle.std.specs.Prelude.{◌≡◌, true, Some, Ok};
 ghost use Rattle.rules.specs.Rule.{read};
 ghost use Rattle.error.specs.Number.{stop_of, stop_number, closing_number};
 ghost use Rattle.fetch.specs.Fetch.{fetch_rule, passed};
@@ -12,7 +12,6 @@ ghost use Rattle.chemread.specs.Lent.{header_of, corrections_of, lent_run, Opens
 ghost use Rattle.chemread.specs.Answers.{place_number};
 ghost use Rattle.volumes.specs.Volume.{run_date, placed};
 ghost use Rattle.sums.specs.Sums.{total_from};
-ghost use Rattle.sums.specs.declared.Total.TheVariants.{Amount};
 
 use error::{Refusal, Stopped};
 use fetch::Fetched;
@@ -21,7 +20,6 @@ use opening::Opening;
 use reader::Closing;
 use states::Stored;
 use streams::Mode;
-use sums::Total;
 use volumes::Placed;
 
 // ---- answers as numbers
@@ -295,16 +293,16 @@ pub extern "C" fn chemstation_fill(
 // Adds the values of a column to a sum, one behind the other. A refusal writes nothing.
 #[unsafe(no_mangle)]
 pub extern "C" fn chemstation_sum(values: &[f64], sum: &mut i64) -> u8
-    ensures { SumsInto (total_from (Amount sum.old) values.now) result sum.old sum.new }
+    ensures { SumsInto (total_from (Some (Ok sum.old)) values.now) result sum.old sum.new }
 {
     let before = *sum;
-    match tally::total_from(Total::Amount(before), values) {
-        Total::Amount(n) => {
+    match tally::total_from(Some(Ok(before)), values) {
+        Some(Ok(n)) => {
             *sum = n;
             GIVEN
         }
-        Total::Absent => GIVEN,
-        Total::Refused(r) => error::number_of(r),
+        None => GIVEN,
+        Some(Err(r)) => error::number_of(r),
     }
 }
 

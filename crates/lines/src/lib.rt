@@ -123,12 +123,12 @@ pub fn put_total(out: &mut [u8], at: usize, t: Total) -> usize
     ensures upper_bound { result ≤ at + 24 }
 {
     match t {
-        Total::Absent => at,
-        Total::Amount(n) => {
+        None => at,
+        Some(Ok(n)) => {
             let a = put_letter(out, at, b't');
             digits::put_signed(out, a, n, b'\n')
         }
-        Total::Refused(_) => {
+        Some(Err(_)) => {
             let a = put_letter(out, at, b't');
             let b = digits::put_byte(out, a, b'-');
             digits::put_byte(out, b, b'\n')

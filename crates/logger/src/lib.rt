@@ -79,11 +79,11 @@ fn read_more<R: Read, E: Write>(
         (λ xs. TookPart q n buf.old buf.new xs (R.remaining input.new) result) }
 {
     match input.read(&mut buf[n..]) {
-        Ok(k) => places::took(q, k, buf),
+        Ok(k) => q.took(k, buf),
         Err(e) => {
             *whole = false;
             tell_input(mode, errors, &e);
-            places::read_failed(q)
+            q.over()
         }
     }
 }
@@ -103,11 +103,11 @@ fn written<E: Write>(
     ensures same { IsOk done → errors.new ≡ errors.old }
 {
     match done {
-        Ok(()) => places::wrote(q, true),
+        Ok(()) => q.wrote(true),
         Err(e) => {
             *whole = false;
             tell_output(mode, errors, &e);
-            places::wrote(q, false)
+            q.wrote(false)
         }
     }
 }
@@ -178,7 +178,7 @@ pub fn log_input<R: Read, W: Write, E: Write>(
         IfSome (W.contents output.old) (λ ys. Logged mode (length buf.old) xs ys (W.contents output.new))) }
 {
     let mut whole = true;
-    let mut p = places::start(mode);
+    let mut p = Place::start(mode);
     loop {
         p = match machine::step(p, buf, out) {
             Ask::Closed => return whole,

@@ -11,7 +11,6 @@ use opening::Opening;
 use reader::Closing;
 use std::io::{Read, Write};
 use streams::State;
-use sums::Total;
 
 // ---- output
 
@@ -160,7 +159,7 @@ fn put_records<W: Write>(
     requires { (from ≤ length s.now) × (at ≤ length out.old) × (32768 ≤ length out.old) }
     ensures { result ≤ length out.old }
 {
-    let w = runlog::log_records(st, s, from, last, out, at, Total::Absent);
+    let w = runlog::log_records(st, s, from, last, out, at, None);
     let closing = w.closing;
     let a = room(output, out, w.at);
     match closing {

@@ -23,8 +23,7 @@ use Rattle.lines.specs.Lines.{record_line}
 use Rattle.reader.specs.Columns.{closing_of}
 use Rattle.reader.specs.declared.Closing.{Closing}
 use lib.Ieee.{Float}
-use Rattle.sums.specs.Sums.{plus, total_from}
-use Rattle.sums.specs.declared.Total.{Total}
+use Rattle.sums.specs.Sums.{AnyTotal, plus, total_from}
 use Rattle.tally.specs.Tally.{start_of}
 use Rattle.tally.specs.declared.Tally.{Tally}
 use Rattle.runlog.specs.declared.Logged.{Logged}
@@ -132,15 +131,15 @@ read_few (suc most) room last st bs =
 -- ---- the loop
 
 -- one value more
-total_more : (t : Total) (rs : List Record) (r : Record) → plus (total_from t (unscaled rs)) (unscaled_of r) ≡ total_from t (unscaled (rs ++ (r ∷ [])))
+total_more : (t : AnyTotal) (rs : List Record) (r : Record) → plus (total_from t (unscaled rs)) (unscaled_of r) ≡ total_from t (unscaled (rs ++ (r ∷ [])))
 total_more t [] r = refl
 total_more t (x ∷ rs) r = total_more (plus t (unscaled_of x)) rs r
 
 -- the total before, by the tally that it was put into
-pub logged_as : {g : Reading State Record} {first : ℕ} {old : List ℕ} {at : ℕ} {s : Tally} {t : Total} {r : Logged} {new : List ℕ} → s ≡ start_of t → LoggedBy g first old at s.far r new → LoggedBy g first old at t r new
+pub logged_as : {g : Reading State Record} {first : ℕ} {old : List ℕ} {at : ℕ} {s : Tally} {t : AnyTotal} {r : Logged} {new : List ℕ} → s ≡ start_of t → LoggedBy g first old at s.far r new → LoggedBy g first old at t r new
 logged_as {g} {first} {old} {at} {r = r} {new} e l = subst (λ (x : Tally). LoggedBy g first old at x.far r new) e l
 
-module _ (last : Bool) (st : State) (src : List ℕ) (from : ℕ) (old : List ℕ) (at : ℕ) (total : Total) where
+module _ (last : Bool) (st : State) (src : List ℕ) (from : ℕ) (old : List ℕ) (at : ℕ) (total : AnyTotal) where
   abbrev all : Reading State Record
   all = logged (length old - at) last st (drop from src)
 
@@ -148,7 +147,7 @@ module _ (last : Bool) (st : State) (src : List ℕ) (from : ℕ) (old : List �
   left new cur f a = logged (length new - a) last cur (drop f src)
 
   -- the records read so far, and what is left: together they are all
-  pub record Logging (new : List ℕ) (cur : State) (f a count : ℕ) (sum : Total) : Type 0 where
+  pub record Logging (new : List ℕ) (cur : State) (f a count : ℕ) (sum : AnyTotal) : Type 0 where
     pub done : List Record
     pub records : all.records ≡ done ++ (left new cur f a).records
     pub taken : from + all.consumed ≡ f + (left new cur f a).consumed
@@ -164,7 +163,7 @@ module _ (last : Bool) (st : State) (src : List ℕ) (from : ℕ) (old : List �
   unfolding lines_of
   logging_start h k = record { done = []; records = refl; taken = refl; state = refl; closing = refl; inside = h; put = put_none k; counted = refl; few = omega arith; added = refl }
 
-  pub logging_more : (new : List ℕ) (cur : State) (f a count : ℕ) (sum : Total) (r : Record) (after : State) (k b : ℕ) (next : List ℕ) → Logging new cur f a count sum → 70 ≤ length new - a →
+  pub logging_more : (new : List ℕ) (cur : State) (f a count : ℕ) (sum : AnyTotal) (r : Record) (after : State) (k b : ℕ) (next : List ℕ) → Logging new cur f a count sum → 70 ≤ length new - a →
       read last (rule cur) (drop f src) ≡ got (record { shows = r; after = after }) k → Put (record_line r) a new b next → Logging next after (f + k) b (count + 1) (plus sum (unscaled_of r))
   unfolding lines_of
   logging_more new cur f a count sum r after k b next g h e p =
@@ -185,11 +184,11 @@ module _ (last : Bool) (st : State) (src : List ℕ) (from : ℕ) (old : List �
       }
 
   -- the same total, said otherwise
-  pub summed : {new : List ℕ} {cur : State} {f a count : ℕ} {s t : Total} → s ≡ t → Logging new cur f a count t → Logging new cur f a count s
+  pub summed : {new : List ℕ} {cur : State} {f a count : ℕ} {s t : AnyTotal} → s ≡ t → Logging new cur f a count t → Logging new cur f a count s
   summed {new} {cur} {f} {a} {count} e g = subst (Logging new cur f a count) (sym e) g
 
   -- where nothing is left, by the answer that the loop stopped at
-  pub logging_end : (new : List ℕ) (cur : State) (f a count : ℕ) (sum : Total) (c : Closing) → Logging new cur f a count sum → left new cur f a ≡ nothing cur (closing_of c) →
+  pub logging_end : (new : List ℕ) (cur : State) (f a count : ℕ) (sum : AnyTotal) (c : Closing) → Logging new cur f a count sum → left new cur f a ≡ nothing cur (closing_of c) →
       LoggedBy all from old at total (record { state = cur; from = f; at = a; count = count; total = sum; closing = c }) new
   logging_end new cur f a count sum c g e =
       let rs : all.records ≡ g.done = g.records ∙ ap (λ w. g.done ++ w.records) e ∙ append-nil g.done in

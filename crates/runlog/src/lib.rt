@@ -8,6 +8,7 @@ ghost use Rattle.runlog.specs.Log.{OneLog};
 use reader::Closing;
 use streams::State;
 use sums::Total;
+use tally::Tally;
 
 // How far a part of the bytes was logged.
 #[derive(Clone, Copy)]
@@ -42,7 +43,7 @@ pub fn log_records(
     let mut f = from;
     let mut a = at;
     let mut count: usize = 0;
-    let mut sum = tally::start(total);
+    let mut sum = Tally::start(total);
     while out.len() - a >= 70 {
         match chemstation::next_record(cur, &src[f..], last) {
             Err(z) => {
@@ -51,12 +52,12 @@ pub fn log_records(
                     from: f,
                     at: a,
                     count,
-                    total: tally::total_of(sum),
+                    total: sum.total(),
                     closing: Closing::Stopped(z),
                 };
             }
             Ok(given) => {
-                sum = tally::add(sum, given.record.unscaled());
+                sum = sum.add(given.record.unscaled());
                 a = lines::put_record(out, a, given.record);
                 cur = given.state;
                 f += given.bytes;
@@ -69,7 +70,7 @@ pub fn log_records(
         from: f,
         at: a,
         count,
-        total: tally::total_of(sum),
+        total: sum.total(),
         closing: Closing::Full,
     }
 }

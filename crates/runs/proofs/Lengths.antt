@@ -10,8 +10,6 @@ use lib.Ieee.{Float}
 use lib.ListN.{length, take, drop, length-append, length-drop}
 use lib.Seq.{length-take-le}
 use lib.IntN.{pos, negsuc}
-use Rattle.sums.specs.declared.Total.{Total}
-use Rattle.sums.specs.declared.Total.TheVariants.{Absent, Amount, Refused}
 use Rattle.rules.specs.Rule.{Stop, refused, finished, more_bytes}
 use Rattle.metadata.specs.Metadata.{Header}
 use Rattle.floats.specs.Doubles.{bits_of}
@@ -26,6 +24,8 @@ use Rattle.runlog.specs.Log.{header_text}
 use Rattle.runlog.specs.Runs.{lines_of, read_into}
 use Rattle.runlog.proofs.Logs.{by_step}
 use Rattle.places.specs.Machine.{put_at}
+use Rattle.std.specs.Prelude.{Some, None, Ok, Err}
+use Rattle.sums.specs.Sums.{AnyTotal}
 
 -- ---- fields
 
@@ -68,14 +68,14 @@ answer_long more_bytes = omega arith
 end_long : (z : Stop) (count : ℕ) → length (end_line z count) ≤ 44
 end_long z count = omega (arith, length-append (answer_text z) (number count 10), answer_long z, number_long count 10)
 
-pub total_long : (t : Total) → length (total_line t) ≤ 24
-total_long Absent = omega arith
-total_long (Refused c) = omega arith
-total_long (Amount (pos n)) = omega (arith, number_long n 10)
-total_long (Amount (negsuc n)) = omega (arith, number_long (suc n) 10)
+pub total_long : (t : AnyTotal) → length (total_line t) ≤ 24
+total_long None = omega arith
+total_long (Some (Err c)) = omega arith
+total_long (Some (Ok (pos n))) = omega (arith, number_long n 10)
+total_long (Some (Ok (negsuc n))) = omega (arith, number_long (suc n) 10)
 
 -- t and e
-pub foot_long : (t : Total) (z : Stop) (count : ℕ) → length (total_line t ++ end_line z count) ≤ 68
+pub foot_long : (t : AnyTotal) (z : Stop) (count : ℕ) → length (total_line t ++ end_line z count) ≤ 68
 foot_long t z count = omega (arith, length-append (total_line t) (end_line z count), total_long t, end_long z count)
 
 -- ---- lines on standard error

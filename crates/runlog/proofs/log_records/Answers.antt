@@ -23,7 +23,7 @@ overflow_sub-out c = omega (arith, c.loop-out.invariant.1.put.fits, c.loop-out.i
 pub returns-in-Err : goal.returns-in-Err
 returns-in-Err c =
     let q = answered c.loop-out.cur c.args.last c.args.src.now c.loop-out.f _ _ c.next_record.ensures c.in-Err.is in
-    logged_as c.start-sum.ensures (logging_end _ _ _ _ _ _ _ _ _ _ _ _ _ _ (summed _ _ _ _ _ _ _ (c.total_of.ensures ∙ totals _ _ c.loop-out.invariant.2) c.loop-out.invariant.1) (logged_stops _ _ _ _ (omega arith) q))
+    logged_as c.start-sum.ensures (logging_end _ _ _ _ _ _ _ _ _ _ _ _ _ _ (summed _ _ _ _ _ _ _ (c.total.ensures ∙ totals _ _ c.loop-out.invariant.2) c.loop-out.invariant.1) (logged_stops _ _ _ _ (omega arith) q))
 
 pub loop-out-preserved : goal.loop-out-preserved
 loop-out-preserved c =
@@ -48,4 +48,4 @@ loop-out-smaller c =
 
 pub returns : goal.returns
 returns c =
-    logged_as c.start-sum.ensures (logging_end _ _ _ _ _ _ _ _ _ _ _ _ _ _ (summed _ _ _ _ _ _ _ (c.total_of-2.ensures ∙ totals _ _ c.loop-out.invariant.2) c.loop-out.invariant.1) (no_room _ _ _ _ _ (omega arith)))
+    logged_as c.start-sum.ensures (logging_end _ _ _ _ _ _ _ _ _ _ _ _ _ _ (summed _ _ _ _ _ _ _ (c.total-2.ensures ∙ totals _ _ c.loop-out.invariant.2) c.loop-out.invariant.1) (no_room _ _ _ _ _ (omega arith)))
