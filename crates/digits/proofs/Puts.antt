@@ -62,6 +62,13 @@ puts_then a b = record { put = put_then a.put b.put; same_reference = b.same_ref
 pub puts_as : {l m : List ℕ} {p q : Pen} → l ≡ m → Puts l p q → Puts m p q
 puts_as {p = p} {q} e a = subst (λ t. Puts t p q) e a
 
+pub puts_none : {p : Pen} → p.at ≤ length p.out.now → Puts [] p p
+puts_none h = record { put = put_none h; same_reference = refl }
+
+-- the same pen, said otherwise
+pub puts_to : {l : List ℕ} {p q r : Pen} → r ≡ q → Puts l p q → Puts l p r
+puts_to {l} {p} e a = subst (λ x. Puts l p x) (sym e) a
+
 -- where the pen is laid down, the memory is as it left it
 pub put_end : {l old new last : List ℕ} {at r : ℕ} → last ≡ new → Put l at old r new → Put l at old r last
 put_end {l} {old} {at = at} {r} e p = subst (λ x. Put l at old r x) (sym e) p

@@ -9,6 +9,7 @@ ghost use Rattle.modes.specs.Modes.{open_by};
 ghost use Rattle.runlog.specs.Log.{first_total};
 ghost use Rattle.places.specs.Machine.{at_hand, fits, goes_on, logs_records, opens, step_of, IsStep};
 
+use digits::Pen;
 use error::Stopped;
 use modes::open_by;
 use opening::Opening;
@@ -35,13 +36,14 @@ fn log_hand(st: State, p: Place, buf: &mut [u8], out: &mut [u8]) -> Ask
     ensures { IsStep (logs_records st p buf.old out.old) result buf.new out.new }
 {
     let hand = &buf[p.from..p.to];
-    let w = runlog::log_records(st, hand, 0, p.last, out, p.at, p.total);
+    let mut pen = Pen { out, at: p.at };
+    let w = runlog::log_records(st, hand, 0, p.last, &mut pen, p.total);
     let left = p.from + w.from;
     if w.count > usize::MAX - p.count {
         let q = Place {
             phase: Phase::TooLong,
             from: left,
-            at: w.at,
+            at: pen.at,
             ..p
         };
         return q.write();
@@ -49,14 +51,14 @@ fn log_hand(st: State, p: Place, buf: &mut [u8], out: &mut [u8]) -> Ask
     let q = Place {
         phase: Phase::Records(w.state),
         from: left,
-        at: w.at,
+        at: pen.at,
         count: p.count + w.count,
         total: w.total,
         ..p
     };
     match w.closing {
         Closing::Full => q.write(),
-        Closing::Stopped(z) => go_on(q, w.state, z, buf, out),
+        Closing::Stopped(z) => go_on(q, w.state, z, buf, pen.out),
     }
 }
 
@@ -79,15 +81,16 @@ fn open(mode: Mode, kind: u8, p: Place, buf: &mut [u8], out: &mut [u8]) -> Ask
             Stopped::Finished | Stopped::Refused(_) => p.close(Phase::Over, z, out),
         },
         Opening::Run(st, n) => {
-            let at = lines::put_header(out, p.at, o.metadata.edition, o.metadata.size);
+            let mut pen = Pen { out, at: p.at };
+            lines::put_header(&mut pen, o.metadata.edition, o.metadata.size);
             let q = Place {
                 phase: Phase::Records(st),
                 from: p.from + n,
-                at,
+                at: pen.at,
                 total: first_total(kind),
                 ..p
             };
-            log_hand(st, q, buf, out)
+            log_hand(st, q, buf, pen.out)
         }
     }
 }

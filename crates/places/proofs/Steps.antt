@@ -12,6 +12,7 @@ use lib.Dec.{eqb, leb}
 use lib.ListN.{length, take, drop, length-drop}
 use lib.Seq.{length-take-le}
 use Rattle.digits.specs.Put.{Put}
+use Rattle.digits.specs.declared.Pen.{Pen}
 use Rattle.places.specs.declared.Ask.{Ask}
 use Rattle.rules.specs.Rule.{Stop, refused, finished, more_bytes, Read, got, stops, read}
 use Rattle.rules.specs.Calls.{Item, Answer, full, stopped, Reading, nothing}
@@ -24,7 +25,7 @@ use Rattle.reader.specs.declared.Closing.{Closing}
 use Rattle.reader.specs.declared.Closing.TheVariants as closing
 use Rattle.sums.specs.Sums.{AnyTotal, total_from}
 use Rattle.runlog.specs.Runs.{lines_of, unscaled, logged, LoggedBy}
-use Rattle.runlog.proofs.Logs.{line_some, no_room, logged_got, logged_stops, read_inside, read_room}
+use Rattle.runlog.proofs.Logs.{line_some, no_room, logged_got, logged_stops, read_inside, read_room, room_of}
 use Rattle.lines.specs.Lines.{record_line}
 use Rattle.runlog.specs.declared.Logged.{Logged}
 use Rattle.chemstation.specs.Next.{rule}
@@ -74,6 +75,9 @@ else_place s {t} {r} e i = subst (λ x. r ≡ cond x s t) (sym e) i
 -- the same step, said otherwise
 pub step_as : {s t : Stepped} {r : Ask} {buf out : List ℕ} → s ≡ t → IsStep s r buf out → IsStep t r buf out
 step_as {r = r} {buf} {out} e i = subst (λ x. IsStep x r buf out) e i
+
+pub step_out : {s : Stepped} {r : Ask} {buf out last : List ℕ} → last ≡ out → IsStep s r buf out → IsStep s r buf last
+step_out e i = record { answer = i.answer; buffer = i.buffer; text = e ∙ i.text }
 
 -- whether the record loop with room for a line stopped as a finished run does
 abbrev pub is_end : Answer → Bool
@@ -129,27 +133,32 @@ module _ (p : Place) (st : State) (buf out : List ℕ) {r : Ask} {b o : List ℕ
 
 -- ---- records logged
 
-module _ (p : Place) (st : State) (buf out out' : List ℕ) (g : Reading State Record) (w : Logged) (l : LoggedBy g 0 out p.at p.total w out') where
-  -- the place behind them
-  placed : (phase : Phase) (count : ℕ) → moved_to p phase (p.from + w.from) p.to w.at count ≡ moved_to p phase (p.from + g.consumed) p.to (p.at + length (lines_of g.records)) count
-  placed phase count = ap₂ (λ f a. moved_to p phase (p.from + f) p.to a count) (l.from ∙ zero-add g.consumed) l.put.next
+module _ (p : Place) (st : State) (buf : List ℕ) (pen next : Pen) (at_start : pen.at ≡ p.at) (g : Reading State Record) (w : Logged) (l : LoggedBy g 0 pen p.total w next) where
+  abbrev here : List ℕ
+  here = put_at p.at (lines_of g.records) pen.out.now
 
-  pub too_many : {r : Ask} → most < p.count + w.count →
-      IsStep (writes (moved_to p TooLong (p.from + w.from) p.to w.at p.count) TooLong buf out') r buf out' → IsStep (behind p st buf out g) r buf out'
-  too_many h i =
+  -- the place behind them
+  placed : (phase : Phase) (count : ℕ) → moved_to p phase (p.from + w.from) p.to next.at count ≡ moved_to p phase (p.from + g.consumed) p.to (p.at + length (lines_of g.records)) count
+  placed phase count = ap₂ (λ f a. moved_to p phase (p.from + f) p.to a count) (l.from ∙ zero-add g.consumed) (l.put.put.next ∙ ap (λ n. n + length (lines_of g.records)) at_start)
+
+  texts : next.out.now ≡ here
+  texts = put_at_lem l.put.put ∙ ap (λ n. put_at n (lines_of g.records) pen.out.now) at_start
+
+  pub too_many : {r : Ask} {out : List ℕ} → out ≡ next.out.now → most < p.count + w.count →
+      IsStep (writes (moved_to p TooLong (p.from + w.from) p.to next.at p.count) TooLong buf out) r buf out → IsStep (behind p st buf pen.out.now g) r buf out
+  too_many {out = out} same h i =
       then_step _ (lt-ltb most (p.count + length g.records) (omega (arith, l.count)))
-      record { answer = i.answer ∙ ap (λ x. (writes x TooLong buf out').answer) (placed TooLong p.count); buffer = refl; text = put_at_lem l.put }
+      record { answer = i.answer ∙ ap (λ x. (writes x TooLong buf out).answer) (placed TooLong p.count); buffer = refl; text = same ∙ texts }
 
   abbrev onward : Place
   onward = totalled (moved_to p (Records g.state) (p.from + g.consumed) p.to (p.at + length (lines_of g.records)) (p.count + length g.records)) (total_from p.total (unscaled g.records))
 
   pub logged_on : {r : Ask} {b o : List ℕ} → p.count + w.count ≤ most →
-      IsStep (goes_on (totalled (moved_to p (Records w.state) (p.from + w.from) p.to w.at (p.count + w.count)) w.total) w.state (closing_of w.closing) buf out') r b o → IsStep (behind p st buf out g) r b o
+      IsStep (goes_on (totalled (moved_to p (Records w.state) (p.from + w.from) p.to next.at (p.count + w.count)) w.total) w.state (closing_of w.closing) buf next.out.now) r b o → IsStep (behind p st buf pen.out.now g) r b o
   logged_on h i =
       let moved = placed (Records w.state) (p.count + w.count) ∙ ap₂ (λ s n. moved_to p (Records s) (p.from + g.consumed) p.to (p.at + length (lines_of g.records)) (p.count + n)) l.state l.count in
-      let here = ap₂ totalled moved l.total in
       else_step _ (le-ltb most (p.count + length g.records) (omega (arith, l.count)))
-      (step_as (ap₂ (λ x s. goes_on x s (closing_of w.closing) buf out') here l.state ∙ ap₂ (λ c t. goes_on onward g.state c buf t) l.closing (put_at_lem l.put)) i)
+      (step_as (ap₂ (λ x s. goes_on x s (closing_of w.closing) buf next.out.now) (ap₂ totalled moved l.total) l.state ∙ ap₂ (λ c t. goes_on onward g.state c buf t) l.closing texts) i)
 
 -- ---- by the phase
 
@@ -195,14 +204,14 @@ pub hand_long : (p : Place) (buf : List ℕ) → p.from ≤ p.to → p.to ≤ le
 hand_long p buf h k = length-take-le (p.to - p.from) (drop p.from buf) (omega (arith, length-drop p.from buf))
 
 -- behind the records logged there is room for the closing line where they stopped, and no byte but those at hand was consumed
-module _ (p : Place) (buf out out' : List ℕ) (last : Bool) (st : State) (t : AnyTotal) (w : Logged) (l : LoggedBy (logged (length out - p.at) last st (at_hand buf p)) 0 out p.at t w out') where
-  pub line_behind : p.at ≤ length out → (z : Stopped) → w.closing ≡ closing.Stopped z → w.at + 68 ≤ length out'
+module _ (p : Place) (buf : List ℕ) (pen next : Pen) (last : Bool) (st : State) (t : AnyTotal) (w : Logged) (l : LoggedBy (logged (room_of pen) last st (at_hand buf p)) 0 pen t w next) where
+  pub line_behind : pen.at ≤ length pen.out.now → (z : Stopped) → w.closing ≡ closing.Stopped z → next.at + 68 ≤ length next.out.now
   line_behind room z c =
-      let free = read_room (length out - p.at) (length out - p.at) last st (at_hand buf p) (sym l.closing ∙ ap closing_of c) in
-      omega (arith, l.put.next, l.put.same)
+      let free = read_room (room_of pen) (room_of pen) last st (at_hand buf p) (sym l.closing ∙ ap closing_of c) in
+      omega (arith, l.put.put.next, l.put.put.same)
 
   pub taken_inside : p.from ≤ p.to → p.to ≤ length buf → p.from + w.from ≤ p.to
   taken_inside low filled =
       let hand = hand_long p buf low filled in
-      let inside = read_inside (length out - p.at) (length out - p.at) last st (at_hand buf p) in
+      let inside = read_inside (room_of pen) (room_of pen) last st (at_hand buf p) in
       omega (arith, l.from)

@@ -9,6 +9,7 @@ ghost use Rattle.chemstation.specs.Next.{rule};
 ghost use Rattle.places.specs.declared.Phase.TheVariants.{Digit, Over};
 ghost use Rattle.places.specs.Machine.{most, started, moved_to, writes, closes, refills, is_finished, closing_bytes, scan_left, ends_by, tells, tells_left, leaves, once_written, by_phase, IsStep, came, over, took_of, wrote_of};
 
+use digits::Pen;
 use error::{Refusal, Stopped};
 use reader::Closing;
 use streams::{Mode, State};
@@ -66,7 +67,11 @@ fn finished(st: State, s: &[u8]) -> bool
     ensures { result ≡ is_finished (read false (rule st) s.now) }
 {
     let mut line = [0u8; 70];
-    let w = runlog::log_records(st, s, 0, false, &mut line, 0, None);
+    let mut pen = Pen {
+        out: &mut line,
+        at: 0,
+    };
+    let w = runlog::log_records(st, s, 0, false, &mut pen, None);
     matches!(w.closing, Closing::Stopped(Stopped::Finished))
 }
 
@@ -127,15 +132,16 @@ impl Place {
         requires { self.at + 68 ≤ length out.old }
         ensures { (buf : List ℕ) → IsStep (closes self phase (stop_of z) buf out.old) result buf out.new }
     {
-        let at = lines::put_total(out, self.at, self.total);
-        let n = lines::put_end(out, at, z, self.count);
+        let mut pen = Pen { out, at: self.at };
+        lines::put_total(&mut pen, self.total);
+        lines::put_end(&mut pen, z, self.count);
         Ask::Write(
             Place {
                 phase,
                 at: 0,
                 ..self
             },
-            n,
+            pen.at,
         )
     }
 
@@ -180,8 +186,9 @@ impl Place {
         if scan == 0 && behind == 0 {
             return Ask::Closed;
         }
-        let n = lines::put_left(out, 0, scan, behind);
-        Ask::Tell(self.silent(), n)
+        let mut pen = Pen { out, at: 0 };
+        lines::put_left(&mut pen, scan, behind);
+        Ask::Tell(self.silent(), pen.at)
     }
 
     // What is left of the last scan is passed over, and what is left is told.
@@ -230,8 +237,9 @@ impl Place {
         requires { 128 ≤ length out.old }
         ensures { (buf : List ℕ) → IsStep (tells self too_long_line buf out.old) result buf out.new }
     {
-        let n = lines::put_too_long(out, 0);
-        Ask::Tell(self.silent(), n)
+        let mut pen = Pen { out, at: 0 };
+        lines::put_too_long(&mut pen);
+        Ask::Tell(self.silent(), pen.at)
     }
 
     // What a run asks for once its log is closed and written.

@@ -5,6 +5,7 @@ ghost use Rattle.std.specs.Prelude.{◌-◌, ◌≤◌, ◌≡◌, ◌++◌, len
 ghost use Rattle.runlog.specs.Runs.{logged, LoggedBy};
 ghost use Rattle.runlog.specs.Log.{OneLog};
 
+use digits::Pen;
 use reader::Closing;
 use streams::State;
 use sums::Total;
@@ -17,40 +18,35 @@ pub struct Logged {
     pub state: State,
     // the first byte that is not consumed
     pub from: usize,
-    // the index behind the last line
-    pub at: usize,
     pub count: usize,
     // what the unscaled values add up to
     pub total: Total,
     pub closing: Closing,
 }
 
-// Reads records from src at index from on, adds their unscaled values to the total and puts their lines into out from index at
-// on, until out has no room for a line or there is another answer than a record.
+// Reads records from src at index from on, adds their unscaled values to the total and puts their lines by the pen, until its memory
+// has no room for a line or there is another answer than a record.
 pub fn log_records(
     st: State,
     src: &[u8],
     from: usize,
     last: bool,
-    out: &mut [u8],
-    at: usize,
+    pen: &mut Pen<'_>,
     total: Total,
 ) -> Logged
-    requires { (from ≤ length src.now) × (at ≤ length out.old) }
-    ensures { LoggedBy (logged (length out.old - at) last st (drop from src.now)) from out.old at total result out.new }
+    requires { (from ≤ length src.now) × (pen.old.at ≤ length pen.old.out.now) }
+    ensures { LoggedBy (logged (length pen.old.out.now - pen.old.at) last st (drop from src.now)) from pen.old total result pen.new }
 {
     let mut cur = st;
     let mut f = from;
-    let mut a = at;
     let mut count: usize = 0;
     let mut sum = Tally::start(total);
-    while out.len() - a >= 70 {
+    while pen.out.len() - pen.at >= 70 {
         match chemstation::next_record(cur, &src[f..], last) {
             Err(z) => {
                 return Logged {
                     state: cur,
                     from: f,
-                    at: a,
                     count,
                     total: sum.total(),
                     closing: Closing::Stopped(z),
@@ -58,7 +54,7 @@ pub fn log_records(
             }
             Ok(given) => {
                 sum = sum.add(given.record.unscaled());
-                a = lines::put_record(out, a, given.record);
+                lines::put_record(pen, given.record);
                 cur = given.state;
                 f += given.bytes;
                 count += 1;
@@ -68,7 +64,6 @@ pub fn log_records(
     Logged {
         state: cur,
         from: f,
-        at: a,
         count,
         total: sum.total(),
         closing: Closing::Full,
@@ -81,10 +76,8 @@ pub fn compact(buf: &mut [u8], from: usize, to: usize) -> usize
     ensures { (result ≡ to - from) × (buf.new ≡ take result (drop from buf.old) ++ drop result buf.old) }
 {
     let n = to - from;
-    let mut i: usize = 0;
-    while i < n {
+    for i in 0..n {
         buf[i] = buf[from + i];
-        i += 1;
     }
     n
 }

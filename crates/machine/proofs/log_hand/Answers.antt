@@ -1,7 +1,7 @@
 -- The records at hand, and then by the answer.
-use Rattle.std.proofs.Common.{arith}
+use Rattle.std.proofs.Common.{refl, rules, arith}
 use Rattle.places.specs.Machine.{logs_records}
-use Rattle.places.proofs.Steps.{closing_as, too_many, logged_on, line_behind, taken_inside}
+use Rattle.places.proofs.Steps.{closing_as, step_out, too_many, logged_on, line_behind, taken_inside}
 use Rattle.machine.proofs.log_hand.Goals as goal
 
 pub overflow_add-left : goal.overflow_add-left
@@ -9,7 +9,7 @@ overflow_add-left c = omega (arith, taken_inside c.args.p c.args.buf.now _ _ _ _
 
 pub returns-then-w-p : goal.returns-then-w-p
 unfolding logs_records
-returns-then-w-p c = too_many c.args.p c.args.st c.args.buf.now _ _ _ _ c.log_records-w.ensures (omega (arith, c.if-w-p.true)) (c.write.ensures _ _)
+returns-then-w-p c = too_many c.args.p c.args.st c.args.buf.now _ _ refl _ _ c.log_records-w.ensures (search rules) (omega (arith, c.if-w-p.true)) (c.write.ensures _ _)
 
 pub go_on-requires : goal.go_on-requires
 go_on-requires c = (
@@ -21,11 +21,13 @@ go_on-requires c = (
 pub returns-in-Full : goal.returns-in-Full
 unfolding logs_records
 returns-in-Full c =
-    logged_on c.args.p c.args.st c.args.buf.now _ _ _ _ c.log_records-w.ensures (omega (arith, c.if-w-p.false))
-    (closing_as _ c.log_records-w.result.state _ _ _ _ c.in-Full.is (c.write-in-Full.ensures _ _))
+    step_out (search rules)
+    (logged_on c.args.p c.args.st c.args.buf.now _ _ refl _ _ c.log_records-w.ensures (omega (arith, c.if-w-p.false))
+    (closing_as _ c.log_records-w.result.state _ _ _ _ c.in-Full.is (c.write-in-Full.ensures _ _)))
 
 pub returns-in-Stopped : goal.returns-in-Stopped
 unfolding logs_records
 returns-in-Stopped c =
-    logged_on c.args.p c.args.st c.args.buf.now _ _ _ _ c.log_records-w.ensures (omega (arith, c.if-w-p.false))
-    (closing_as _ c.log_records-w.result.state c.args.buf.now c.log_records-w.new.out _ _ c.in-Stopped.is c.go_on.ensures)
+    step_out (search rules)
+    (logged_on c.args.p c.args.st c.args.buf.now _ _ refl _ _ c.log_records-w.ensures (omega (arith, c.if-w-p.false))
+    (closing_as _ c.log_records-w.result.state c.args.buf.now c.log_records-w.new.pen.out.now _ _ c.in-Stopped.is c.go_on.ensures))

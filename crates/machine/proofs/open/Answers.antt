@@ -1,7 +1,7 @@
 -- By the answer; behind a header, the records at hand.
-use Rattle.std.proofs.Common.{arith}
+use Rattle.std.proofs.Common.{arith, rules}
 use Rattle.rules.proofs.Laws.{taken_within}
-use Rattle.places.proofs.Steps.{put_at_lem, hand_long}
+use Rattle.places.proofs.Steps.{put_at_lem, hand_long, step_out}
 use Rattle.machine.proofs.Opens.{open_waits, open_refused, not_more, open_reads, open_runs}
 use Rattle.machine.proofs.open.Goals as goal
 
@@ -15,7 +15,7 @@ log_hand-requires c =
     let reads = open_reads c.args.mode c.args.kind c.args.p c.args.buf.now c.args.out.now c.open_by-o.ensures _ _ c.in-Run.is in
     let within = taken_within _ _ _ reads.1 in
     let hand = hand_long c.args.p c.args.buf.now c.requires.0 c.requires.1 in
-    (omega arith, c.requires.1, omega (arith, c.put_header-at.ensures.put.fits, c.put_header-at.ensures.put.same))
+    (omega arith, c.requires.1, omega (arith, c.put_header.ensures.put.put.fits, c.put_header.ensures.put.put.same))
 
 pub returns-in-MoreBytes : goal.returns-in-MoreBytes
 returns-in-MoreBytes c = open_waits c.args.mode c.args.kind c.args.p c.args.buf.now c.args.out.now c.open_by-o.ensures _ c.in-Stopped.is c.in-MoreBytes.is c.refill.ensures
@@ -25,5 +25,6 @@ returns-in-Finished c = open_refused c.args.mode c.args.kind c.args.p c.args.buf
 
 pub returns-in-Run : goal.returns-in-Run
 returns-in-Run c =
-    let p = c.put_header-at.ensures.put in
-    open_runs c.args.mode c.args.kind c.args.p c.args.buf.now c.args.out.now c.open_by-o.ensures _ _ c.in-Run.is _ _ _ p.next (put_at_lem p) c.first_total.ensures c.log_hand.ensures
+    let p = c.put_header.ensures.put.put in
+    step_out (search rules)
+    (open_runs c.args.mode c.args.kind c.args.p c.args.buf.now c.args.out.now c.open_by-o.ensures _ _ c.in-Run.is _ _ _ p.next (put_at_lem p) c.first_total.ensures c.log_hand.ensures)

@@ -7,6 +7,3 @@ use Rattle.runlog.proofs.compact.Given as goal
 
 abbrev pub invariant-loop-i : goal.invariant-loop-i
 invariant-loop-i l = (l.i ≤ l.n) × (length l.buf ≡ length l.initial.buf) × (l.buf ≡ take l.i (drop l.from l.initial.buf) ++ drop l.i l.initial.buf)
-
-abbrev pub decreases-loop-i : goal.decreases-loop-i
-decreases-loop-i l = l.n - l.i
