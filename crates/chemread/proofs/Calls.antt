@@ -15,7 +15,11 @@ use Rattle.metadata.specs.Metadata.{Header}
 use Rattle.fetch.specs.Fetch.{outcome_of, Fetches}
 use Rattle.texts.specs.Eight.{Texts, FetchesAll}
 use Rattle.metadata.specs.declared.ChemstationMetadata.{ChemstationMetadata}
-use Rattle.fetch.specs.declared.Fetched.{Fetched}
+use Rattle.std.specs.Prelude.{Result}
+use Rattle.error.specs.declared.Refusal.{Refusal}
+use Rattle.fetch.specs.declared.FetchedText.{FetchedText}
+use Rattle.texts.specs.declared.FetchedTexts.{FetchedTexts}
+use Rattle.texts.specs.Eight as eight
 use Rattle.streams.specs.declared.State.{State}
 use Rattle.streams.specs.declared.Mode.{Mode}
 use Rattle.chemstation.specs.Next.{rule}
@@ -71,14 +75,12 @@ opens_into {mode = mode} {kind} {last} {s} {r = r} a old o e =
 
 -- ---- Fetch a text
 
-pub texts_into : (x : Read (List (List ℕ))) (f g : Fetched) (m : Both Texts Texts) → FetchesAll f m x → f ≡ g → TextsInto x (outcome_number (outcome_of g)) m
-texts_into x f g m h e = record { answer = ap outcome_number (ap outcome_of (sym e) ∙ h.answer); memory = h.memory }
+pub texts_into : {x : Read (List (List ℕ))} {f : Result FetchedTexts Refusal} {m : Both Texts Texts} → FetchesAll f m x → TextsInto x (outcome_number (eight.outcome_of f)) m
+texts_into h = record { answer = ap outcome_number h.answer; memory = h.memory }
 
-pub fetches_into : (x : Read (List ℕ)) (f g : Fetched) (old new : List ℕ) (n : ℕ) → Fetches f old new x → f ≡ g →
-    FetchesInto x (outcome_number (outcome_of g)) (record { entry = record { bytes = old; size = n }; exit = record { bytes = new; size = size_after (outcome_of g) n } })
-fetches_into x f g old new n h e =
-    let q = ap outcome_of (sym e) ∙ h.answer in
-    record { answer = ap outcome_number q; memory = λ j. record { bytes = h.buffer j; size = size_after (q j) n } }
+pub fetches_into : {x : Read (List ℕ)} {f : Result FetchedText Refusal} {old new : List ℕ} (n : ℕ) → Fetches f old new x →
+    FetchesInto x (outcome_number (outcome_of f)) (record { entry = record { bytes = old; size = n }; exit = record { bytes = new; size = size_after (outcome_of f) n } })
+fetches_into n h = record { answer = ap outcome_number h.answer; memory = λ j. record { bytes = h.buffer j; size = size_after (h.answer j) n } }
 
 -- ---- Fill columns
 

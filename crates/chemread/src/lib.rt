@@ -14,7 +14,6 @@ ghost use Rattle.volumes.specs.Volume.{run_date, placed};
 ghost use Rattle.sums.specs.Sums.{total_from};
 
 use error::{Refusal, Stopped};
-use fetch::Fetched;
 use metadata::ChemstationMetadata;
 use opening::Opening;
 use reader::Closing;
@@ -205,13 +204,14 @@ pub extern "C" fn chemstation_text(
     ensures text { FetchesInto (read true (fetch_rule kind number) s.now) result (lent_text out length) }
     ensures count { replaced.new ≡ passed kind number out.old s.now }
 {
-    let t = fetch::fetch_text(kind, number, s, out);
-    *replaced = t.replaced;
-    let answer = t.answer;
-    match answer {
-        Fetched::Refused(r) => error::number_of(r),
-        Fetched::Text(n) => {
-            *length = n;
+    match fetch::fetch_text(kind, number, s, out) {
+        Err(r) => {
+            *replaced = 0;
+            u8::from(r)
+        }
+        Ok(text) => {
+            *replaced = text.replaced;
+            *length = text.bytes;
             GIVEN
         }
     }
@@ -231,13 +231,16 @@ pub extern "C" fn chemstation_texts(
     ensures texts { TextsInto (read true (eight_rule kind) s.now) result (lent_texts out starts lengths) }
     ensures counts { replaced.new ≡ all_passed kind out.old s.now }
 {
-    let t = texts::fetch_texts(kind, s, out, starts, lengths);
-    let each = t.replaced;
-    *replaced = each;
-    let answer = t.answer;
-    match answer {
-        Fetched::Refused(r) => error::number_of(r),
-        Fetched::Text(_) => GIVEN,
+    match texts::fetch_texts(kind, s, out, starts, lengths) {
+        Err(r) => {
+            *replaced = [0; 8];
+            u8::from(r)
+        }
+        Ok(texts) => {
+            let each = texts.replaced;
+            *replaced = each;
+            GIVEN
+        }
     }
 }
 
@@ -275,9 +278,7 @@ pub extern "C" fn chemstation_fill(
         *given = [0, 0];
         return error::number_of(Refusal::UnknownKind);
     };
-    let f = reader::fill_columns(
-        st, s, last, time, axis, unscaled, scaled, minutes, leftover,
-    );
+    let f = reader::fill_columns(st, s, last, time, axis, unscaled, scaled, minutes, leftover);
     let after = Stored::from(f.state);
     let x = after.numbers;
     *numbers = x;

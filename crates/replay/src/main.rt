@@ -7,7 +7,7 @@ ghost use Rattle.replay.specs.Pens.{Stays};
 use common::Number;
 use digits::Pen;
 use error::Stopped;
-use fetch::{Fetched, fetch_text};
+use fetch::fetch_text;
 use metadata::ChemstationMetadata;
 use opening::Opening;
 use reader::Closing;
@@ -109,9 +109,9 @@ fn put_text(kind: u8, number: u8, s: &[u8], lent: &mut [u8], pen: &mut Pen<'_>)
     ensures { Stays pen.old pen.new }
 {
     // the units replaced are no part of the original's answer
-    match fetch_text(kind, number, s, lent).answer {
-        Fetched::Refused(r) => lines::put_end(pen, Stopped::Refused(r), 0),
-        Fetched::Text(n) => put_found(number, &lent[..n], pen),
+    match fetch_text(kind, number, s, lent) {
+        Err(r) => lines::put_end(pen, Stopped::Refused(r), 0),
+        Ok(text) => put_found(number, &lent[..text.bytes], pen),
     }
 }
 

@@ -9,7 +9,7 @@ use lib.ListN.{length, take, drop, length-append}
 use lib.Seq.{take-append_seam}
 use borrow.Author.Tests.{le-leb}
 use borrow.Table.Steps.{cases as by}
-use Rattle.rules.specs.Rule.{Stop, got, stops, read, map_read}
+use Rattle.rules.specs.Rule.{Read, got, stops, read, map_read}
 use Rattle.utf16.specs.Utf16.{bytes_of}
 use Rattle.utf16.specs.declared.Recoded.{Recoded}
 use Rattle.utf16.proofs.Units.{said_bytes}
@@ -18,7 +18,11 @@ use Rattle.written.proofs.Puts.{room_for, length_for, no_room}
 use Rattle.std.specs.Prelude.{Option, None, Some}
 use Rattle.metadata.specs.Metadata.{Header, open_rule}
 use Rattle.fetch.specs.Fetch.{number_of_stop}
-use Rattle.fetch.proofs.Fetches.{text_in, fetch_reads}
+use Rattle.error.specs.Number.{number_of}
+use Rattle.error.specs.declared.Refusal.{Refusal}
+use Rattle.fetch.specs.declared.described.Described.{Described}
+use Rattle.fetch.specs.Headers.{IsHeader, IsRefusal, text_in}
+use Rattle.fetch.proofs.Fetches.{text_read, fetch_reads}
 use Rattle.dates.specs.Dates.{date_of}
 use Rattle.dates.proofs.Forms.{long_text}
 use Rattle.volumes.specs.Volume.{told, told_by, refuse, run_date}
@@ -47,12 +51,20 @@ module _ (q : Option Recoded) (old new t : List ℕ) (p : Puts (bytes_of q) old 
 -- ---- a file
 
 module _ (kind : ℕ) (s : List ℕ) where
-  by_open : run_date kind s ≡ told_by (map_read (text_in 8) (read true (open_rule kind) s))
+  by_open : run_date kind s ≡ told_by (map_read (text_read 8) (read true (open_rule kind) s))
   unfolding run_date
   by_open = ap told_by (fetch_reads kind 8 s refl)
 
-  pub tells_refusal : (z : Stop) (c : ℕ) → read true (open_rule kind) s ≡ stops z → c ≡ number_of_stop z → refuse c ≡ run_date kind s
-  tells_refusal z c e n = sym (by_open ∙ rw e (ap refuse (sym n)))
+  pub tells_refusal : (r : Refusal) → IsRefusal r (read true (open_rule kind) s) → refuse (number_of r) ≡ run_date kind s
+  tells_refusal r h = go (read true (open_rule kind) s) refl h
+    where
+      go : (x : Read Header) → read true (open_rule kind) s ≡ x → IsRefusal r x → refuse (number_of r) ≡ run_date kind s
+      go (got x n) e h = absurd h
+      go (stops z) e h = sym (by_open ∙ rw e (ap refuse (sym h)))
 
-  pub tells_date : (x : Header) (n : ℕ) → read true (open_rule kind) s ≡ got x n → told (date_of (text_in 8 x)) ≡ run_date kind s
-  tells_date x n e = sym (by_open ∙ rw e)
+  pub tells_date : (d : Described) → IsHeader d (read true (open_rule kind) s) → told (date_of (text_in 7 d)) ≡ run_date kind s
+  tells_date d h = go (read true (open_rule kind) s) refl h
+    where
+      go : (x : Read Header) → read true (open_rule kind) s ≡ x → IsHeader d x → told (date_of (text_in 7 d)) ≡ run_date kind s
+      go (stops z) e h = absurd h
+      go (got x n) e h = sym (by_open ∙ rw (e, h.0, h.1) refl)

@@ -2,17 +2,13 @@
 #![tactic(auto)]
 
 ghost use Rattle.std.specs.Prelude.{◌≡◌};
-ghost use Rattle.rules.specs.Rule.{gives};
-ghost use Rattle.layouts.specs.Table.{field_of};
-ghost use Rattle.metadata.specs.Metadata.{metadata_rule};
-ghost use Rattle.fetch.specs.Fetch.{text_of};
+ghost use Rattle.fetch.specs.Headers.{text_in};
 ghost use Rattle.dates.specs.Dates.{date_of};
 ghost use Rattle.volumes.specs.Volume.{told, run_date, date_told, place_of, where_told, placed, place_told, VolumeWindows};
 
 use dates::date_of;
 use error::Refusal;
-use fetch::{refusal_of, text_bytes};
-use metadata::{ChemstationMetadata, open_header};
+use fetch::{Described, Stored};
 use utf16::decode_utf16;
 
 // Where a file's date lies, of a window.
@@ -24,20 +20,20 @@ pub enum Placed {
     Undated,
 }
 
-// The date in a header h that says d. No form is longer than 24 characters: a text that has no room in 96 bytes is no date, and 24 units
+// The date in a header. No form is longer than 24 characters: a text that has no room in 96 bytes is no date, and 24 units
 // of UTF-16 need not be measured for them.
-fn date_in(d: ChemstationMetadata, h: &[u8]) -> Option<u32>
-    requires { metadata_rule h.now ≡ gives d }
-    ensures { result ≡ date_of (text_of (field_of 7 d.edition) h.now) }
+fn date_in(d: &Described<'_>) -> Option<u32>
+    ensures { result ≡ date_of (text_in 7 d.now) }
 {
-    let bytes = text_bytes(d, 7, h);
-    if d.edition <= 102 {
-        return date_of(bytes);
-    }
-    let mut text = [0u8; 96];
-    match decode_utf16(bytes, &mut text) {
-        Some(t) => date_of(&text[..t.bytes]),
-        None => None,
+    match d.text(7) {
+        Stored::Utf8(bytes) => date_of(bytes),
+        Stored::Utf16(bytes) => {
+            let mut text = [0u8; 96];
+            match decode_utf16(bytes, &mut text) {
+                Some(t) => date_of(&text[..t.bytes]),
+                None => None,
+            }
+        }
     }
 }
 
@@ -45,15 +41,8 @@ fn date_in(d: ChemstationMetadata, h: &[u8]) -> Option<u32>
 pub fn run_date(kind: u8, s: &[u8]) -> Result<Option<u32>, Refusal>
     ensures { date_told result ≡ run_date kind s.now }
 {
-    let answer = open_header(kind, s, true);
-    match answer {
-        Err(z) => Err(refusal_of(z)),
-        Ok(o) => {
-            let d = o.metadata;
-            let size = d.size;
-            Ok(date_in(d, &s[..size]))
-        }
-    }
+    let d = Described::open(kind, s)?;
+    Ok(date_in(&d))
 }
 
 // Where a date lies.
