@@ -37,6 +37,11 @@ impl TryFrom<u8> for Kind {
     }
 }
 
+// The smallest and the largest size of a header, in bytes.
+const SMALLEST: usize = 512;
+
+const LARGEST: usize = 20000;
+
 // The size in bytes that the size word says.
 fn header_size(kind: Kind, word: u32) -> usize
     requires { 0 < word }
@@ -59,10 +64,10 @@ pub fn read_agilent_header(kind: u8, s: &[u8], last: bool) -> Result<usize, Stop
         return Err(Refusal::SizeWordZero.into());
     }
     let size = header_size(kind, word);
-    if size < 512 {
+    if size < SMALLEST {
         return Err(Refusal::HeaderTooSmall.into());
     }
-    if 20000 < size {
+    if LARGEST < size {
         return Err(Refusal::HeaderTooLarge.into());
     }
     if s.len() < size {

@@ -69,7 +69,7 @@ count : {fields : Bool} {Q : Type 0} → Q → (x : Option ℕ) → Orderly fiel
 count q None = refusing
 count q (Some n) = giving q
 
-scans_by_lem : (b : Bool) (kind : ℕ) (d : ChemstationMetadata) (h : List ℕ) → eqb kind 6 ≡ b → Orderly true (λ _. kind ≡ 6 → 4126 ≤ length h) (scans_rule kind d h)
+scans_by_lem : {fields : Bool} (b : Bool) (kind : ℕ) (d : ChemstationMetadata) (h : List ℕ) → eqb kind 6 ≡ b → Orderly fields (λ _. kind ≡ 6 → 4126 ≤ length h) (scans_rule kind d h)
 unfolding array_scans
 scans_by_lem true kind d h e = rw e (next (tested (leb 4126 (length h)) 9) λ _ l. count (λ _. leb-true 4126 (length h) l) (scan_count_of (quotient_of d h)))
 scans_by_lem false kind d h e = rw e (giving λ six. absurd (eqb-false kind 6 e six))
@@ -104,13 +104,8 @@ sized : (h : List ℕ) → Orderly false (λ d. d.size ≡ length h) (metadata_r
 unfolding metadata_rule described_by
 sized h = then (search checked) λ _. then (search checked) λ _. then (any_texts (be (part 248 4 h)) h texts) λ ps. giving refl
 
-any_scans : (b : Bool) (kind : ℕ) (d : ChemstationMetadata) (h : List ℕ) → eqb kind 6 ≡ b → Orderly false Any (scans_rule kind d h)
-unfolding array_scans
-any_scans true kind d h e = rw e (then (search checked) λ _. count tt (scan_count_of (quotient_of d h)))
-any_scans false kind d h e = rw e (giving tt)
-
 pub says_size : (kind : ℕ) (h : List ℕ) {x : Header} → after_bytes kind h ≡ gives x → x.says.size ≡ length h
-says_size kind h e = outcome (λ (x : Header). x.says.size ≡ length h) (next (sized h) λ d q. then (any_scans (eqb kind 6) kind d h refl) λ n. giving q) e
+says_size kind h e = outcome (λ (x : Header). x.says.size ≡ length h) (next (sized h) λ d q. next (scans_by_lem (eqb kind 6) kind d h refl) λ n l. giving q) e
 
 -- ---- what the answer says
 

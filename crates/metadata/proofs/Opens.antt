@@ -1,9 +1,10 @@
 -- Open: the header's bytes, then what is left of its rule, by the tests that code makes.
 use mathlib.Core.Path.{◌≡◌, refl, sym, ap, ◌∙◌}
-use mathlib.Core.Bool.{Bool, false}
+use mathlib.Core.Bool.{Bool}
 use mathlib.Core.List.{List}
+use mathlib.Core.Logic.{◌⊎◌, inl, inr}
 use Prim.Native.Nat.{ℕ, ◌≤◌, ◌<◌}
-use lib.Dec.{ltb, eqb}
+use lib.Dec.{ltb}
 use lib.Ieee.{Float, binary64, sub, div}
 use lib.ListN.{length, take}
 use borrow.Author.Tests.{lt-ltb, le-leb, lt-leb}
@@ -15,10 +16,10 @@ use Rattle.common.specs.Bytes.{be, part}
 use Rattle.floats.specs.Doubles.{double, scan_count_of}
 use Rattle.agilent.specs.Header.{header_rule, kind_number}
 use Rattle.agilent.specs.declared.Kind.{Kind}
-use Rattle.agilent.specs.declared.Kind.TheVariants.{Fid, Ms, Mwd, Dad, Uv, Array}
+use Rattle.agilent.specs.declared.Kind.TheVariants.{Fid, Ms, Mwd, Dad, Uv}
 use Rattle.agilent.proofs.Checks.{passes, fails}
 use Rattle.layouts.specs.Table.{look, minima, texts}
-use Rattle.metadata.specs.Metadata.{texts_rule, described_by, described_rule, metadata_rule, step_of, quotient_of, count_rule, array_scans, scans_at, Header, after_description, after_bytes, open_rule}
+use Rattle.metadata.specs.Metadata.{texts_rule, described_by, described_rule, metadata_rule, step_of, quotient_of, count_rule, array_scans, Header, after_description, after_bytes, open_rule}
 use Rattle.metadata.specs.declared.ChemstationMetadata.{ChemstationMetadata}
 use Rattle.metadata.proofs.Gathers.{AllFound}
 
@@ -70,18 +71,17 @@ unfolding ◌>>=◌
 is_described kind h q = rw q refl
 
 -- of a kind but array
-no_array : (kind : Kind) → ¬ (kind ≡ Array) → eqb (kind_number kind) 6 ≡ false
-no_array Fid n = refl
-no_array Ms n = refl
-no_array Mwd n = refl
-no_array Dad n = refl
-no_array Uv n = refl
-no_array Array n = absurd (n refl)
+module _ {kind : Kind} (d : ChemstationMetadata) (h : List ℕ) where
+  pub no_scans : (kind ≡ Fid) ⊎ (kind ≡ Mwd) → after_description (kind_number kind) h d ≡ gives (record { bytes = h; says = d; scans = 0; step = double 0 })
+  unfolding ◌>>=◌
+  no_scans (inl e) = rw e refl
+  no_scans (inr e) = rw e refl
 
-pub described_scans : (kind : Kind) → ¬ (kind ≡ Array) → (d : ChemstationMetadata) (h : List ℕ) →
-    after_description (kind_number kind) h d ≡ gives (record { bytes = h; says = d; scans = scans_at (kind_number kind) h; step = double 0 })
-unfolding ◌>>=◌
-described_scans kind n d h = rw (no_array kind n) refl
+  pub stored_scans : (kind ≡ Ms) ⊎ ((kind ≡ Dad) ⊎ (kind ≡ Uv)) → after_description (kind_number kind) h d ≡ gives (record { bytes = h; says = d; scans = be (part 278 4 h); step = double 0 })
+  unfolding ◌>>=◌
+  stored_scans (inl e) = rw e refl
+  stored_scans (inr (inl e)) = rw e refl
+  stored_scans (inr (inr e)) = rw e refl
 
 pub open_reads : (kind : ℕ) (last : Bool) (s : List ℕ) {x : Read (List ℕ)} → read last (header_rule kind) s ≡ x → read last (open_rule kind) s ≡ read_then last s (after_bytes kind) x
 unfolding open_rule

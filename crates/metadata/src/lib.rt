@@ -8,7 +8,7 @@ ghost use Rattle.agilent.specs.Header.{kind_number};
 ghost use Rattle.layouts.specs.Table.{look, minima, clocks};
 ghost use Rattle.layouts.specs.Editions.{edition_number, stored};
 ghost use Rattle.layouts.specs.declared.Clock.TheVariants.{Nowhere};
-ghost use Rattle.metadata.specs.Metadata.{time_at, double_at, described_by, described_rule, metadata_rule, step_of, scans_at, after_description, after_bytes, open_rule, blank, header_read};
+ghost use Rattle.metadata.specs.Metadata.{time_at, double_at, described_by, described_rule, metadata_rule, step_of, after_description, after_bytes, open_rule, blank, header_read};
 ghost use Rattle.metadata.specs.Remaining.{header_of};
 
 use agilent::{Kind, read_agilent_header};
@@ -172,31 +172,22 @@ fn open_array(metadata: ChemstationMetadata, h: &[u8]) -> Result<OpenedHeader, R
     })
 }
 
-// The scans due that the header of a kind but array says: FID and MWD have none.
-fn scans_at(kind: Kind, h: &[u8]) -> usize
-    requires { 512 ≤ length h.now }
-    ensures { result ≡ scans_at (kind_number kind) h.now }
-{
-    match kind {
-        Kind::Fid | Kind::Mwd => 0,
-        _ => u32::be_at(h, 278) as usize,
-    }
-}
-
 // Opens a whole header.
 fn from_header(kind: Kind, h: &[u8]) -> Result<OpenedHeader, Refusal>
     requires { 512 ≤ length h.now }
     ensures { outcome (header_of h.now) result ≡ after_bytes (kind_number kind) h.now }
 {
     let metadata = metadata_of(h)?;
-    match kind {
-        Kind::Array => open_array(metadata, h),
-        _ => Ok(OpenedHeader {
-            scans: scans_at(kind, h),
-            time_step: 0.0,
-            metadata,
-        }),
-    }
+    let scans = match kind {
+        Kind::Array => return open_array(metadata, h),
+        Kind::Fid | Kind::Mwd => 0,
+        Kind::Ms | Kind::Dad | Kind::Uv => u32::be_at(h, 278) as usize,
+    };
+    Ok(OpenedHeader {
+        scans,
+        time_step: 0.0,
+        metadata,
+    })
 }
 
 // Opens a run as far as its header goes: the description, the scans due and an array's time step.

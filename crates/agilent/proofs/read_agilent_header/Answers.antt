@@ -22,16 +22,16 @@ pub returns-then-word-eq0 : goal.returns-then-word-eq0
 returns-then-word-eq0 c =
     ap (λ z. stops (stop_of z)) c.into.ensures ∙ sym (size_word c.args.kind c.args.last c.args.s.now (is_known _ c.in_ok-kind.ensures) (omega arith) (omega arith))
 
-pub returns-then-size-lt512 : goal.returns-then-size-lt512
-returns-then-size-lt512 c =
+pub returns-then-size-lt-SMALLEST : goal.returns-then-size-lt-SMALLEST
+returns-then-size-lt-SMALLEST c =
     let z = c.header_size-size.ensures ∙ ap₂ size_of c.in_ok-kind.ensures c.be_at-word.ensures in
-    ap (λ z. stops (stop_of z)) c.into-then-size-lt512.ensures
+    ap (λ z. stops (stop_of z)) c.into-then-size-lt-SMALLEST.ensures
     ∙ sym (size_small c.args.kind c.args.last c.args.s.now (is_known _ c.in_ok-kind.ensures) (omega arith) (omega arith) (omega arith))
 
-pub returns-then-size-gt20000 : goal.returns-then-size-gt20000
-returns-then-size-gt20000 c =
+pub returns-then-size-gt-LARGEST : goal.returns-then-size-gt-LARGEST
+returns-then-size-gt-LARGEST c =
     let z = c.header_size-size.ensures ∙ ap₂ size_of c.in_ok-kind.ensures c.be_at-word.ensures in
-    ap (λ z. stops (stop_of z)) c.into-then-size-gt20000.ensures
+    ap (λ z. stops (stop_of z)) c.into-then-size-gt-LARGEST.ensures
     ∙ sym (size_large c.args.kind c.args.last c.args.s.now (is_known _ c.in_ok-kind.ensures) (omega arith) (omega arith) (omega arith))
 
 pub returns-then-s-size : goal.returns-then-s-size
