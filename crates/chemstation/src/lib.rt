@@ -28,6 +28,8 @@ fn spectrum_next(st: State, s: &[u8], last: bool) -> Result<Given, Stopped>
     }
 }
 
+// Kept: a function of each kind rather than a trait of the states (d): an impl stands in the crate of its trait or of its type, and both
+// would be `streams`, below the kinds.
 // The next record of any kind, by the reading that the state is of. A refusal, 'finished' and 'more bytes' consume nothing and leave the
 // state as it was.
 pub fn next_record(st: State, s: &[u8], last: bool) -> Result<Given, Stopped>

@@ -225,6 +225,8 @@ impl Delta {
 }
 
 // The delta at a position and the position after it, or why there is none.
+// Kept: bytes, position and whether they are the last as three (d): each kind would begin with `Input { bytes: s, at: 0, last }`, and a
+// clause would read i.bytes.now, i.at and i.last where it now reads s.now, at and last, the three that `read_at` takes.
 pub fn delta_at(order: Endian, s: &[u8], at: usize, last: bool) -> Result<(Delta, usize), Stopped>
     requires { at ≤ length s.now }
     ensures { delta_read result ≡ read_at last (delta (order_of order)) at s.now }
