@@ -1,5 +1,5 @@
 -- UTF-16 (the Unicode standard, 3.9: D91, Table 3-5), its units little-endian.
-use Rattle.std.specs.Prelude.{◌≡◌, Bool, not, cond, ◌&&◌, ◌||◌, List, [], ◌∷◌, ◌++◌, ℕ, zero, suc, ◌+◌, ◌-◌, ◌*◌, ◌/◌, ◌%◌, ◌≤◌, ◌<◌, ltb, length, get_or, drop, Option, None, Some}
+use Rattle.std.specs.Prelude.{◌≡◌, Bool, not, cond, ◌&&◌, ◌||◌, List, [], ◌∷◌, ◌++◌, ℕ, zero, suc, ◌+◌, ◌-◌, ◌*◌, ◌/◌, ◌%◌, ◌≤◌, ltb, length, get_or, drop, Option, None, Some}
 use Rattle.utf8.specs.Utf8.{Scalars, within, encode, encodes}
 use Rattle.utf16.specs.declared.Piece.{Piece}
 use Rattle.utf16.specs.declared.Recoded.{Recoded}
@@ -78,13 +78,12 @@ replaced_alone u = cond (within 0xD800 0xDFFF u) 1 0
 abbrev pub piece_of : ℕ → ℕ → Piece
 piece_of u v = cond (is_high u && is_low v) (record { scalar = pair u v; width = 4; replaced = 0 }) (record { scalar = alone u; width = 2; replaced = replaced_alone u })
 
-abbrev pub unit_at : List ℕ → ℕ → ℕ
-unit_at s at = get_or (units (drop at s)) 0 0
+abbrev pub first_unit : List ℕ → ℕ
+first_unit s = get_or (units s) 0 0
 
--- r is what the UTF-16 from a place on begins with
-pub record First (s : List ℕ) (at : ℕ) (r : Piece) : Type 0 where
-  pub small : r.scalar < 0x110000
+-- r is what the UTF-16 in s begins with
+pub record First (s : List ℕ) (r : Piece) : Type 0 where
   pub moves : 2 ≤ r.width
-  pub fits : at + r.width ≤ length s
-  pub begins : utf8_of (drop at s) ≡ encode r.scalar ++ utf8_of (drop (at + r.width) s)
-  pub counts : unpaired (units (drop at s)) ≡ r.replaced + unpaired (units (drop (at + r.width) s))
+  pub fits : r.width ≤ length s
+  pub begins : utf8_of s ≡ encode r.scalar ++ utf8_of (drop r.width s)
+  pub counts : unpaired (units s) ≡ r.replaced + unpaired (units (drop r.width s))

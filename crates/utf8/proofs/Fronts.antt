@@ -1,19 +1,17 @@
 -- The scalar at the front of some bytes: those are its UTF-8, and so it is found there.
 use mathlib.Core.Path.{◌≡◌, refl, sym, ap, ◌∙◌}
 use mathlib.Core.Logic.{inl, inr, ⊎_elim}
-use mathlib.Core.Bool.{true, false, false≢true}
+use mathlib.Core.Bool.{true, false≢true}
 use mathlib.Core.List.{List, [], ◌∷◌, ◌++◌}
 use Prim.Native.Nat.{ℕ, ◌+◌, ◌-◌, ◌*◌, ◌/◌, ◌≤◌, ◌<◌}
 use Rattle.std.specs.Prelude.{None}
-use native.Mathlib.Nat.{add-zero}
 use native.Mathlib.Omega.{arith}
 use lib.Dec.{leb, ltb, eqb}
-use lib.ListN.{length, drop, get_or, length-append}
-use lib.Seq.{get_or-drop, drop-append_seam}
-use borrow.Author.Tests.{ltb-true, ltb-false, leb-true, leb-false, eqb-true, eqb-false, lt-ltb, le-ltb, ne_eqb}
+use lib.ListN.{length, drop, get_or}
+use lib.Seq.{drop-append_seam}
+use borrow.Author.Tests.{ltb-true, ltb-false, leb-true, leb-false, eqb-true, eqb-false, lt-ltb, le-ltb}
 use borrow.Table.Steps.{cases as by}
-use Rattle.utf8.specs.declared.Front.{Front}
-use Rattle.utf8.specs.Utf8.{Scalar, six, encode, low, high, second, follows, more, front, longer, front_of, front_in}
+use Rattle.utf8.specs.Utf8.{Front, Scalar, six, encode, low, high, second, follows, more, front, longer, front_of, front_in}
 use Rattle.utf8.proofs.Cases.{split, least, most, inside}
 
 -- ---- the four lengths
@@ -62,36 +60,6 @@ module _ (a b c d : ℕ) where
 
     front_4 : (u v x : ℕ) → u ≡ more (a - 0xF0) b → v ≡ more u c → x ≡ more v d → 0xF0 ≤ a → follows c ≡ true → follows d ≡ true → front x 4 ≡ front_of a b c d
     front_4 u v x i f e m t k = let l : 0xE0 ≤ a = omega arith in rw front_longer (simp (le-ltb _ _ l, t, le-ltb _ _ m, k, e, f, i))
-
--- two bytes, whatever stands behind them
-module _ (a b : ℕ) (g : 0xC2 ≤ a) (h : a < 0xE0) where
-  second_2 : second a b ≡ follows b
-  second_2 =
-      let p : a ≡ 0xE0 → ⊥ = omega arith in
-      let q : a ≡ 0xF0 → ⊥ = omega arith in
-      let r : a ≡ 0xED → ⊥ = omega arith in
-      let t : a ≡ 0xF4 → ⊥ = omega arith in
-      simp (ne_eqb _ _ p, ne_eqb _ _ q, ne_eqb _ _ r, ne_eqb _ _ t)
-
-  pub two_ill : (c d : ℕ) → follows b ≡ false → None ≡ front_of a b c d
-  unfolding front_of
-  two_ill c d e =
-      let i : 0x80 ≤ a = omega arith in
-      let j : a ≤ 0xF4 = omega arith in
-      let k = second_2 ∙ e in
-      simp (le-ltb _ _ i, le-ltb _ _ g, le-ltb _ _ j, k)
-
-  pub two_char : (c d x : ℕ) → follows b ≡ true → x ≡ more (a - 0xC0) b → front x 2 ≡ front_of a b c d
-  two_char c d x e f = front_2 a b c d g (omega arith) (second_2 ∙ e) x f h
-
--- a byte of the rest is one of the whole
-pub front_in_lem : (s : List ℕ) (at a b c d : ℕ) → a ≡ get_or s at 0 → b ≡ get_or s (at + 1) 0 → c ≡ get_or s (at + 2) 0 → d ≡ get_or s (at + 3) 0
-    → front_of a b c d ≡ front_in (drop at s)
-front_in_lem s at a b c d p q r t = cc (get_or-drop at s 0 0, get_or-drop at s 1 0, get_or-drop at s 2 0, get_or-drop at s 3 0, add-zero at)
-
--- a byte of ASCII, whatever stands behind it
-pub front_ascii : (s : List ℕ) (at a : ℕ) → a ≡ get_or s at 0 → a < 0x80 → front a 1 ≡ front_in (drop at s)
-front_ascii s at a e h = front_1 a _ _ _ h ∙ front_in_lem s at a _ _ _ e refl refl refl
 
 -- ---- the second byte, by the first: in numbers, what Table 3-7 asks
 
@@ -164,16 +132,12 @@ found x r s = by_length x one two three four
 
 pub record Found (l : List ℕ) (x w : ℕ) : Type 0 where
   pub scalar : Scalar x
-  pub wide : w ≡ length (encode x)
-  pub fits : w ≤ length l
   pub whole : l ≡ encode x ++ drop w l
 
 made : (x : ℕ) (p l : List ℕ) → Scalar x → encode x ≡ p → Found (p ++ l) x (length p)
 made x p l s e =
     record {
       scalar = s;
-      wide = sym (ap length e);
-      fits = omega (arith, length-append p l);
       whole = ap (λ (k : List ℕ). k ++ l) (sym e) ∙ ap (λ (k : List ℕ). encode x ++ k) (sym (drop-append_seam p l));
     }
 

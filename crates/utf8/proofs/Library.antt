@@ -31,7 +31,7 @@ pub from_scalars : (cs : List ℕ) → scalars cs ≡ true → Scalars cs
 from_scalars [] s = tt
 from_scalars (c ∷ cs) s = (scalar_cases c (first (scalar c) (scalars cs) s), from_scalars cs (second (scalar c) (scalars cs) s))
 
-same_encode : (c : ℕ) → their_encode c ≡ encode c
+pub same_encode : (c : ℕ) → their_encode c ≡ encode c
 unfolding their_encode
 same_encode c = let p : c / 4096 ≡ c / 64 / 64 = omega arith in let q : c / 262144 ≡ c / 64 / 64 / 64 = omega arith in rw (p, q) refl
 

@@ -1,6 +1,5 @@
 -- UTF-8 (the Unicode standard, 3.9).
 use Rattle.std.specs.Prelude.{◌≡◌, ◌⊎◌, Bool, cond, ◌&&◌, List, [], ◌∷◌, ◌++◌, ℕ, zero, suc, ◌+◌, ◌-◌, ◌*◌, ◌/◌, ◌%◌, ◌≤◌, ◌<◌, leb, ltb, eqb, get_or, Option, None, Some}
-use Rattle.utf8.specs.declared.Front.{Front}
 
 -- D76: a scalar value is any code point but a surrogate.
 abbrev pub Scalar : ℕ → Type 0
@@ -53,7 +52,11 @@ follows b = within 0x80 0xBF b
 abbrev pub more : ℕ → ℕ → ℕ
 more v b = v * 64 + b % 64
 
--- the scalar c, in w bytes
+-- a scalar at the front of some bytes, and how many of them it takes
+pub record Front : Type 0 where
+  pub scalar : ℕ
+  pub width : ℕ
+
 abbrev pub front : ℕ → ℕ → Option Front
 front c w = Some (record { scalar = c; width = w })
 

@@ -1,45 +1,17 @@
 -- Some put into a buffer.
-use mathlib.Core.Path.{◌≡◌, sym, ap, ◌∙◌}
+use mathlib.Core.Path.{◌≡◌}
 use mathlib.Core.Bool.{false≢true}
-use mathlib.Core.List.{List, ◌++◌}
-use Prim.Native.Nat.{ℕ, ◌+◌, ◌≤◌, ◌<◌}
-use native.Mathlib.Nat.{zero-add}
-use native.Mathlib.Numerals.{add-one}
+use mathlib.Core.List.{List}
+use Prim.Native.Nat.{ℕ, ◌≤◌, ◌<◌}
 use native.Mathlib.Omega.{arith}
 use lib.Dec.{leb}
-use lib.ListN.{length, take, drop, set, get_or}
-use lib.Seq.{paste, paste-suc, take-length, take_at, drop_at, drop-drop}
+use lib.ListN.{length}
 use borrow.Author.Tests.{le-leb, lt-leb, leb-true, leb-false}
 use borrow.Table.Steps.{cases as by}
 use Rattle.std.specs.Prelude.{None, Some}
-use Rattle.written.specs.Written.{written, Puts}
-
--- one byte more
-pub paste_on : (d s new : List ℕ) (at i : ℕ) → new ≡ paste d at s i → at + i < length d → i < length s → set new (at + i) (get_or s i 0) ≡ paste d at s (i + 1)
-paste_on d s new at i e g h = rw add-one (ap (λ (l : List ℕ). set l (at + i) (get_or s i 0)) e ∙ paste-suc d at s i 0 g h)
-
--- the front of b is l
-pub paste_front : (d b l : List ℕ) (at : ℕ) → take (length l) b ≡ l → paste d at b (length l) ≡ paste d at l (length l)
-paste_front d b l at e = ap (λ (k : List ℕ). take at d ++ k ++ drop (at + length l) d) (e ∙ sym (take-length l))
-
-pub paste_start : (d l : List ℕ) → paste d 0 l (length l) ≡ l ++ drop (length l) d
-paste_start d l = rw (zero-add (length l)) (ap (λ (k : List ℕ). k ++ drop (length l) d) (take-length l))
-
--- l behind what is there already
-pub paste_next : (d done l : List ℕ) (n : ℕ) → n ≡ length done → paste (done ++ drop n d) n l (length l) ≡ (done ++ l) ++ drop (n + length l) d
-paste_next d done l n e =
-    let new = done ++ drop n d in
-    ap (λ (k : List ℕ). k ++ take (length l) l ++ drop (n + length l) new) (take_at done (drop n d) n (sym e))
-    ∙ ap (λ (k : List ℕ). done ++ k ++ drop (n + length l) new) (take-length l)
-    ∙ ap (λ (k : List ℕ). (done ++ l) ++ k) (sym (drop-drop (length l) n new) ∙ ap (drop (length l)) (drop_at done (drop n d) n (sym e)) ∙ drop-drop (length l) n d)
+use Rattle.written.specs.Written.{written}
 
 -- ---- the whole text, or nothing
-
-pub puts : (old new text : List ℕ) (n : ℕ) → n ≡ length text → length text ≤ length old → new ≡ text ++ drop n old → Puts (Some n) old new text
-puts old new text n e h p = rw e (record { answer = simp (le-leb _ _ h); holds = simp (le-leb _ _ h) (p ∙ ap (λ (k : ℕ). text ++ drop k old) e) })
-
-pub refuses : (old text : List ℕ) → length old < length text → Puts None old old text
-refuses old text h = record { answer = simp (lt-leb _ _ h); holds = simp (lt-leb _ _ h) }
 
 module _ (room : ℕ) (text : List ℕ) where
   pub fills : (n : ℕ) → n ≡ length text → n ≤ room → Some n ≡ written room text

@@ -1,8 +1,6 @@
 // Texts written to a lent buffer, from its start.
 #![tactic(auto)]
 
-ghost use Rattle.std.specs.Prelude.{◌≡◌, ◌+◌, ◌≤◌, length};
-ghost use Rattle.std.proofs.Math.Seq.{paste};
 ghost use Rattle.written.specs.Written.{Puts};
 
 // Writes src to the start of out, if there is room for it, and answers its length.
