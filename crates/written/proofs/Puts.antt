@@ -1,15 +1,24 @@
--- Some put into a buffer.
-use mathlib.Core.Path.{◌≡◌}
+-- Bytes put into a buffer.
+use mathlib.Core.Path.{◌≡◌, sym, ap, ◌∙◌}
 use mathlib.Core.Bool.{false≢true}
-use mathlib.Core.List.{List}
-use Prim.Native.Nat.{ℕ, ◌≤◌, ◌<◌}
+use mathlib.Core.List.{List, ◌++◌}
+use Prim.Native.Nat.{ℕ, ◌+◌, ◌≤◌, ◌<◌}
 use native.Mathlib.Omega.{arith}
 use lib.Dec.{leb}
-use lib.ListN.{length}
+use lib.ListN.{length, take, drop}
+use lib.Seq.{paste, take-length, take_at, drop_at, drop-drop}
 use borrow.Author.Tests.{le-leb, lt-leb, leb-true, leb-false}
 use borrow.Table.Steps.{cases as by}
 use Rattle.std.specs.Prelude.{None, Some}
 use Rattle.written.specs.Written.{written}
+
+-- l behind what is there already
+pub paste_next : (d done l : List ℕ) (n : ℕ) → n ≡ length done → paste (done ++ drop n d) n l (length l) ≡ (done ++ l) ++ drop (n + length l) d
+paste_next d done l n e =
+    let new = done ++ drop n d in
+    ap (λ (k : List ℕ). k ++ take (length l) l ++ drop (n + length l) new) (take_at done (drop n d) n (sym e))
+    ∙ ap (λ (k : List ℕ). done ++ k ++ drop (n + length l) new) (take-length l)
+    ∙ ap (λ (k : List ℕ). (done ++ l) ++ k) (sym (drop-drop (length l) n new) ∙ ap (drop (length l)) (drop_at done (drop n d) n (sym e)) ∙ drop-drop (length l) n d)
 
 -- ---- the whole text, or nothing
 
