@@ -13,6 +13,7 @@ pub enum Endian {
 }
 
 // A number of a fixed width in bytes.
+// Kept: (a) a slice and a position beside it: by the project's rule a reader stands on functions over a slice and a number.
 pub trait Number: Sized {
     // how many bytes it has
     ghost width: { ℕ };
