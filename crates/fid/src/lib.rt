@@ -57,7 +57,7 @@ fn fid_slope(st: ChemstationFidState, v: i16) -> Result<Given, Stopped>
 pub fn fid_next(st: ChemstationFidState, s: &[u8], last: bool) -> Result<Given, Stopped>
     ensures { answer_of result ≡ read last (rule_by (State.Fid st) (fid_rule st)) s.now }
 {
-    if s.len() == 0 {
+    if s.is_empty() {
         return Err(ended(last));
     }
     if s.len() < DELTA {

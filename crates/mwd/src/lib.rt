@@ -58,7 +58,7 @@ fn mwd_point(
 pub fn mwd_next(st: ChemstationMwdState, s: &[u8], last: bool) -> Result<Given, Stopped>
     ensures { answer_of result ≡ read last (rule_by (State.Mwd st) (mwd_rule st)) s.now }
 {
-    if s.len() == 0 {
+    if s.is_empty() {
         return Err(ended(last));
     }
     let points = st.n_wvs_left;

@@ -5,6 +5,7 @@ use mir.Syntax.{w16, w32}
 use mir.Val.{to_z, of_z}
 use native.Mathlib.Omega.{arith}
 use borrow.Author.Rules.{rules}
+use Rattle.std.proofs.lemmas.Bool.{eqb-true, eqb-false}
 use Rattle.rules.specs.Rule.{got, stops}
 use Rattle.streams.specs.Changes.{slopes, restarts}
 use Rattle.streams.specs.Told.{told}
@@ -16,13 +17,14 @@ use Rattle.streams.proofs.Steps.{rule_reads}
 use Rattle.fid.proofs.FidLaws.{fid_none, fid_cut, fid_restart_cut, fid_restarts, fid_slopes}
 use Rattle.fid.proofs.fid_next.Goals as goal
 
-pub returns-then-s-eq0 : goal.returns-then-s-eq0
-returns-then-s-eq0 c =
-    ap stops c.ended.ensures ∙ sym (rule_reads (Fid c.args.st) (fid_rule c.args.st) c.args.last c.args.s.now (fid_none c.args.st c.args.last c.args.s.now c.if-s-eq0.true))
+pub returns-then-is_empty : goal.returns-then-is_empty
+returns-then-is_empty c =
+    ap stops c.ended.ensures ∙ sym (rule_reads (Fid c.args.st) (fid_rule c.args.st) c.args.last c.args.s.now (fid_none c.args.st c.args.last c.args.s.now (eqb-true _ _ (sym c.is_empty.ensures ∙ c.if-is_empty.true))))
 
 pub returns-then-s-lt-DELTA : goal.returns-then-s-lt-DELTA
 returns-then-s-lt-DELTA c =
-    ap stops c.cut.ensures ∙ sym (rule_reads (Fid c.args.st) (fid_rule c.args.st) c.args.last c.args.s.now (fid_cut c.args.st c.args.last c.args.s.now (omega arith) (omega arith)))
+    let some = eqb-false _ _ (sym c.is_empty.ensures ∙ c.if-is_empty.false) in
+    ap stops c.cut.ensures ∙ sym (rule_reads (Fid c.args.st) (fid_rule c.args.st) c.args.last c.args.s.now (fid_cut c.args.st c.args.last c.args.s.now (omega (arith, some)) (omega arith)))
 
 pub returns-then-v-ne32767 : goal.returns-then-v-ne32767
 returns-then-v-ne32767 c =

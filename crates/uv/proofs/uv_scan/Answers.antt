@@ -1,7 +1,6 @@
 -- Each answer is what the rule of a new scan reads of the bytes that are there.
 use mathlib.Core.Path.{sym}
 use native.Mathlib.Omega.{arith}
-use borrow.Author.Rules.{rules}
 use Rattle.uv.proofs.UvLaws.{uv_range_cut, uv_above, uv_step_cut, uv_step_zero, uv_skip_cut, uv_first}
 use Rattle.uv.proofs.uv_scan.Goals as goal
 
@@ -23,9 +22,6 @@ returns-then-step-eq0 c =
 pub returns-then-s-lt-HEAD : goal.returns-then-s-lt-HEAD
 returns-then-s-lt-HEAD c =
     rw (c.cut-then-s-lt-HEAD.ensures, uv_skip_cut c.args.st c.args.last c.args.s.now c.le_at-time.ensures c.le_at-start.ensures c.le_at-end.ensures c.if-start-end.false c.le_at-step.ensures c.if-step-eq0.false (omega arith) (omega arith))
-
-pub uv_point-requires : goal.uv_point-requires
-uv_point-requires c = rw c.uv_begun-begun.ensures (search rules)
 
 pub returns : goal.returns
 returns c =
