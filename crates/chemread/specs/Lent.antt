@@ -12,7 +12,7 @@ use Rattle.streams.specs.declared.Mode.{Mode}
 use Rattle.streams.specs.declared.Mode.TheVariants.{Plain, Atlas}
 use Rattle.streams.specs.declared.Record.{Record}
 use Rattle.modes.specs.Modes.{begins_by}
-use Rattle.reader.specs.Columns.{Columns, Lent, columns_with, fill_of}
+use Rattle.reader.specs.Columns.{Held, Lent, columns_with, fill_of}
 use Rattle.streams.specs.Next.{stored_of}
 use Rattle.states.specs.State.{numbers_of, counts_of, state_by}
 use Rattle.error.specs.Number.{closing_number}
@@ -110,16 +110,16 @@ pub record Filling : Type 0 where
   pub numbers : List Float
   pub counts : List ℕ
   pub stored : ℕ
-  pub columns : Columns
+  pub columns : Held
   pub given : List ℕ
 
-abbrev pub lent_filling : Lent (List Float) → Lent (List ℕ) → Lent ℕ → Both Columns Columns → Lent (List ℕ) → Both Filling Filling
+abbrev pub lent_filling : Lent (List Float) → Lent (List ℕ) → Lent ℕ → Both Held Held → Lent (List ℕ) → Both Filling Filling
 lent_filling x n t c g = record {
   entry = record { numbers = x.entry.now; counts = n.entry.now; stored = t.entry.now; columns = c.entry; given = g.entry.now };
   exit = record { numbers = x.exit.now; counts = n.exit.now; stored = t.exit.now; columns = c.exit; given = g.exit.now };
 }
 
-abbrev filled_by : Reading State Record → Columns → Filling
+abbrev filled_by : Reading State Record → Held → Filling
 filled_by g old = record {
   numbers = numbers_of g.state;
   counts = counts_of g.state;
@@ -133,7 +133,7 @@ abbrev filling_after : Option State → List ℕ → Bool → Filling → Fillin
 filling_after (Some st) s last old = filled_by (fill_of st s last old.columns) old.columns
 filling_after None s last old = record { numbers = old.numbers; counts = old.counts; stored = old.stored; columns = old.columns; given = 0 ∷ 0 ∷ [] }
 
-abbrev filling_number : Option State → List ℕ → Bool → Columns → ℕ
+abbrev filling_number : Option State → List ℕ → Bool → Held → ℕ
 filling_number (Some st) s last old = closing_number (fill_of st s last old).closing
 filling_number None s last old = 1
 

@@ -15,8 +15,6 @@ ghost use Rattle.sums.specs.Sums.{total_from};
 
 use error::{Refusal, Stopped};
 use metadata::ChemstationMetadata;
-use opening::Opening;
-use reader::Closing;
 use states::Stored;
 use streams::Mode;
 use volumes::Placed;
@@ -48,12 +46,12 @@ fn stop_number(z: Stopped) -> u8
 }
 
 // The number of what closes a filling.
-fn closing_number(c: Closing) -> u8
+fn closing_number(c: Result<(), Stopped>) -> u8
     ensures { result ≡ closing_number (closing_of c) }
 {
     match c {
-        Closing::Full => FULL,
-        Closing::Stopped(z) => stop_number(z),
+        Ok(()) => FULL,
+        Err(z) => stop_number(z),
     }
 }
 
@@ -99,19 +97,17 @@ fn open_into(
 ) -> u8
     ensures { OpensInto mode kind (read last (open_by mode kind) s.now) result (lent_run header corrections text_starts text_lengths numbers counts stored_time reading) }
 {
-    let o = modes::open_by(mode, kind, s, last);
-    let d = o.metadata;
-    let answer = o.answer;
-    match answer {
-        Opening::Stopped(z) => stop_number(z),
-        Opening::Run(st, _) => {
+    match modes::open_by(mode, kind, s, last) {
+        Err(z) => stop_number(z),
+        Ok(run) => {
+            let d = run.metadata;
             *header = header_of(d);
             *corrections = corrections_of(d);
             let starts = d.text_starts;
             *text_starts = starts;
             let lengths = d.text_lengths;
             *text_lengths = lengths;
-            let stored = Stored::from(st);
+            let stored = Stored::from(run.state);
             let doubles = stored.numbers;
             *numbers = doubles;
             let wholes = stored.counts;
@@ -278,7 +274,7 @@ pub extern "C" fn chemstation_fill(
         *given = [0, 0];
         return error::number_of(Refusal::UnknownKind);
     };
-    let f = reader::fill_columns(st, s, last, time, axis, unscaled, scaled, minutes, leftover);
+    let f = reader::fill_slices(st, s, last, time, axis, unscaled, scaled, minutes, leftover);
     let after = Stored::from(f.state);
     let x = after.numbers;
     *numbers = x;

@@ -12,9 +12,7 @@ ghost use Rattle.places.specs.Machine.{at_hand, fits, goes_on, logs_records, ope
 use digits::Pen;
 use error::Stopped;
 use modes::open_by;
-use opening::Opening;
 use places::{Ask, Phase, Place};
-use reader::Closing;
 use streams::{Mode, State};
 use sums::Total;
 
@@ -57,8 +55,8 @@ fn log_hand(st: State, p: Place, buf: &mut [u8], out: &mut [u8]) -> Ask
         ..p
     };
     match w.closing {
-        Closing::Full => q.write(),
-        Closing::Stopped(z) => go_on(q, w.state, z, buf, pen.out),
+        Ok(()) => q.write(),
+        Err(z) => go_on(q, w.state, z, buf, pen.out),
     }
 }
 
@@ -74,23 +72,22 @@ fn open(mode: Mode, kind: u8, p: Place, buf: &mut [u8], out: &mut [u8]) -> Ask
     requires { (p.from ≤ p.to) × (p.to ≤ length buf.old) × (p.at + 68 ≤ length out.old) }
     ensures { IsStep (opens mode kind p buf.old out.old (read p.last (open_by mode kind) (at_hand buf.old p))) result buf.new out.new }
 {
-    let o = open_by(mode, kind, &buf[p.from..p.to], p.last);
-    match o.answer {
-        Opening::Stopped(z) => match z {
+    match open_by(mode, kind, &buf[p.from..p.to], p.last) {
+        Err(z) => match z {
             Stopped::MoreBytes => p.refill(buf, out),
             Stopped::Finished | Stopped::Refused(_) => p.close(Phase::Over, z, out),
         },
-        Opening::Run(st, n) => {
+        Ok(run) => {
             let mut pen = Pen { out, at: p.at };
-            lines::put_header(&mut pen, o.metadata.edition, o.metadata.size);
+            lines::put_header(&mut pen, run.metadata.edition, run.metadata.size);
             let q = Place {
-                phase: Phase::Records(st),
-                from: p.from + n,
+                phase: Phase::Records(run.state),
+                from: p.from + run.size,
                 at: pen.at,
                 total: first_total(kind),
                 ..p
             };
-            log_hand(st, q, buf, pen.out)
+            log_hand(run.state, q, buf, pen.out)
         }
     }
 }

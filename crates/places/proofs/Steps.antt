@@ -21,8 +21,7 @@ use Rattle.error.specs.declared.Refusal.{Refusal}
 use Rattle.error.specs.declared.Stopped.{Stopped}
 use Rattle.error.specs.declared.Stopped.TheVariants.{Refused}
 use Rattle.reader.specs.Columns.{closing_of}
-use Rattle.reader.specs.declared.Closing.{Closing}
-use Rattle.reader.specs.declared.Closing.TheVariants as closing
+use Rattle.std.specs.Prelude.{Result, Err}
 use Rattle.sums.specs.Sums.{AnyTotal, total_from}
 use Rattle.runlog.specs.Runs.{lines_of, unscaled, logged, LoggedBy}
 use Rattle.runlog.proofs.Logs.{line_some, no_room, logged_got, logged_stops, read_inside, read_room, room_of}
@@ -101,7 +100,7 @@ end_so st bs = go (read false (rule st) bs) refl
     go (got x n) e = ap (λ g. is_end g.closing) (logged_got 70 false st bs (omega arith) e) ∙ ap (λ g. is_end g.closing) (one x.shows x.after (drop n bs))
     go (stops z) e = ap (λ g. is_end g.closing) (logged_stops 70 false st bs (omega arith) e) ∙ stops_so z
 
-pub finished_so : (st : State) (bs : List ℕ) (c : Closing) (b : Bool) → b ≡ is_end (closing_of c) → closing_of c ≡ (logged 70 false st bs).closing → b ≡ is_finished (read false (rule st) bs)
+pub finished_so : (st : State) (bs : List ℕ) (c : Result (Unit {0}) Stopped) (b : Bool) → b ≡ is_end (closing_of c) → closing_of c ≡ (logged 70 false st bs).closing → b ≡ is_finished (read false (rule st) bs)
 finished_so st bs c b e f = e ∙ ap is_end f ∙ end_so st bs
 
 -- the search for the fields that closed a run
@@ -128,7 +127,7 @@ module _ (p : Place) (st : State) (buf out : List ℕ) {r : Ask} {b o : List ℕ
   pub go_refused : (z : Stopped) (c : Refusal) → z ≡ Refused c → IsStep (closes p Over (stop_of z) buf out) r b o → IsStep (goes_on p st (stopped (stop_of z)) buf out) r b o
   go_refused z c e = subst (λ x. IsStep (closes p Over (stop_of x) buf out) r b o → IsStep (goes_on p st (stopped (stop_of x)) buf out) r b o) (sym e) (λ i. i)
 
-  pub closing_as : (c d : Closing) → c ≡ d → IsStep (goes_on p st (closing_of d) buf out) r b o → IsStep (goes_on p st (closing_of c) buf out) r b o
+  pub closing_as : (c d : Result (Unit {0}) Stopped) → c ≡ d → IsStep (goes_on p st (closing_of d) buf out) r b o → IsStep (goes_on p st (closing_of c) buf out) r b o
   closing_as c d e i = subst (λ x. IsStep (goes_on p st (closing_of x) buf out) r b o) (sym e) i
 
 -- ---- records logged
@@ -205,7 +204,7 @@ hand_long p buf h k = length-take-le (p.to - p.from) (drop p.from buf) (omega (a
 
 -- behind the records logged there is room for the closing line where they stopped, and no byte but those at hand was consumed
 module _ (p : Place) (buf : List ℕ) (pen next : Pen) (last : Bool) (st : State) (t : AnyTotal) (w : Logged) (l : LoggedBy (logged (room_of pen) last st (at_hand buf p)) 0 pen t w next) where
-  pub line_behind : pen.at ≤ length pen.out.now → (z : Stopped) → w.closing ≡ closing.Stopped z → next.at + 68 ≤ length next.out.now
+  pub line_behind : pen.at ≤ length pen.out.now → (z : Stopped) → w.closing ≡ Err z → next.at + 68 ≤ length next.out.now
   line_behind room z c =
       let free = read_room (room_of pen) (room_of pen) last st (at_hand buf p) (sym l.closing ∙ ap closing_of c) in
       omega (arith, l.put.put.next, l.put.put.same)

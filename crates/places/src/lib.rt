@@ -11,7 +11,6 @@ ghost use Rattle.places.specs.Machine.{most, started, moved_to, writes, closes, 
 
 use digits::Pen;
 use error::{Refusal, Stopped};
-use reader::Closing;
 use streams::{Mode, State};
 use sums::Total;
 
@@ -72,7 +71,7 @@ fn finished(st: State, s: &[u8]) -> bool
         at: 0,
     };
     let w = runlog::log_records(st, s, 0, false, &mut pen, None);
-    matches!(w.closing, Closing::Stopped(Stopped::Finished))
+    matches!(w.closing, Err(Stopped::Finished))
 }
 
 // How many bytes the fields have that closed a run.

@@ -9,8 +9,6 @@ use digits::Pen;
 use error::Stopped;
 use fetch::fetch_text;
 use metadata::ChemstationMetadata;
-use opening::Opening;
-use reader::Closing;
 use std::io::{Read, Write};
 use streams::State;
 
@@ -157,8 +155,8 @@ fn put_records<W: Write>(
     let w = runlog::log_records(st, s, from, last, pen, None);
     room(output, pen);
     match w.closing {
-        Closing::Full => complain(output, pen, b"? a text longer than the buffer\n"),
-        Closing::Stopped(z) => lines::put_end(pen, z, w.count),
+        Ok(()) => complain(output, pen, b"? a text longer than the buffer\n"),
+        Err(z) => lines::put_end(pen, z, w.count),
     }
 }
 
@@ -166,12 +164,11 @@ fn log_case<W: Write>(kind: u8, s: &[u8], last: bool, output: &mut W, pen: &mut 
     requires { (pen.old.at + 4096 ≤ length pen.old.out.now) × (32768 ≤ length pen.old.out.now) }
     ensures { Stays pen.old pen.new }
 {
-    let o = opening::open_run(kind, s, last);
-    match o.answer {
-        Opening::Stopped(z) => lines::put_end(pen, z, 0),
-        Opening::Run(state, n) => {
-            lines::put_header(pen, o.metadata.edition, o.metadata.size);
-            put_records(state, s, n, last, output, pen);
+    match opening::open_run(kind, s, last) {
+        Err(z) => lines::put_end(pen, z, 0),
+        Ok(run) => {
+            lines::put_header(pen, run.metadata.edition, run.metadata.size);
+            put_records(run.state, s, run.size, last, output, pen);
         }
     }
 }

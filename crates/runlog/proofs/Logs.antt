@@ -22,7 +22,8 @@ use Rattle.digits.specs.Put.{Puts}
 use Rattle.digits.specs.declared.Pen.{Pen}
 use Rattle.lines.specs.Lines.{record_line}
 use Rattle.reader.specs.Columns.{closing_of}
-use Rattle.reader.specs.declared.Closing.{Closing}
+use Rattle.std.specs.Prelude.{Result}
+use Rattle.error.specs.declared.Stopped.{Stopped}
 use lib.Ieee.{Float}
 use Rattle.sums.specs.Sums.{AnyTotal, plus, total_from}
 use Rattle.tally.specs.Tally.{start_of}
@@ -193,7 +194,7 @@ module _ (last : Bool) (st : State) (src : List ℕ) (from : ℕ) (p : Pen) (tot
   summed {q} {cur} {f} {count} e g = subst (Logging q cur f count) (sym e) g
 
   -- where nothing is left, by the answer that the loop stopped at
-  pub logging_end : (q : Pen) (cur : State) (f count : ℕ) (sum : AnyTotal) (c : Closing) → Logging q cur f count sum → left q cur f ≡ nothing cur (closing_of c) →
+  pub logging_end : (q : Pen) (cur : State) (f count : ℕ) (sum : AnyTotal) (c : Result (Unit {0}) Stopped) → Logging q cur f count sum → left q cur f ≡ nothing cur (closing_of c) →
       LoggedBy all from p total (record { state = cur; from = f; count = count; total = sum; closing = c }) q
   logging_end q cur f count sum c g e =
       let rs : all.records ≡ g.done = g.records ∙ ap (λ w. g.done ++ w.records) e ∙ append-nil g.done in

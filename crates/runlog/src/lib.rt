@@ -6,7 +6,7 @@ ghost use Rattle.runlog.specs.Runs.{logged, LoggedBy};
 ghost use Rattle.runlog.specs.Log.{OneLog};
 
 use digits::Pen;
-use reader::Closing;
+use error::Stopped;
 use streams::State;
 use sums::Total;
 use tally::Tally;
@@ -21,7 +21,8 @@ pub struct Logged {
     pub count: usize,
     // what the unscaled values add up to
     pub total: Total,
-    pub closing: Closing,
+    // Ok: the room for lines is used up
+    pub closing: Result<(), Stopped>,
 }
 
 // Reads records from src at index from on, adds their unscaled values to the total and puts their lines by the pen, until its memory
@@ -49,7 +50,7 @@ pub fn log_records(
                     from: f,
                     count,
                     total: sum.total(),
-                    closing: Closing::Stopped(z),
+                    closing: Err(z),
                 };
             }
             Ok(given) => {
@@ -66,7 +67,7 @@ pub fn log_records(
         from: f,
         count,
         total: sum.total(),
-        closing: Closing::Full,
+        closing: Ok(()),
     }
 }
 

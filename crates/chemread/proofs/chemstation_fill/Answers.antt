@@ -10,4 +10,4 @@ returns-in_default c =
 pub returns : goal.returns
 returns c =
     rw (c.closing_number.ensures, c.from-after.ensures)
-    (fills_into _ _ _ _ _ _ _ (sym c.state.ensures ∙ c.in-Some.is) c.fill_columns-f.ensures)
+    (fills_into _ _ _ _ _ _ _ (sym c.state.ensures ∙ c.in-Some.is) c.fill_slices-f.ensures)

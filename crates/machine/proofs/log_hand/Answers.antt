@@ -15,19 +15,19 @@ pub go_on-requires : goal.go_on-requires
 go_on-requires c = (
   taken_inside c.args.p c.args.buf.now _ _ _ _ _ _ c.log_records-w.ensures c.requires.0 c.requires.1,
   c.requires.1,
-  line_behind c.args.p c.args.buf.now _ _ _ _ _ _ c.log_records-w.ensures c.requires.2 _ c.in-Stopped.is,
+  line_behind c.args.p c.args.buf.now _ _ _ _ _ _ c.log_records-w.ensures c.requires.2 _ c.in-Err.is,
 )
 
-pub returns-in-Full : goal.returns-in-Full
+pub returns-in-Ok : goal.returns-in-Ok
 unfolding logs_records
-returns-in-Full c =
+returns-in-Ok c =
     step_out (search rules)
     (logged_on c.args.p c.args.st c.args.buf.now _ _ refl _ _ c.log_records-w.ensures (omega (arith, c.if-w-p.false))
-    (closing_as _ c.log_records-w.result.state _ _ _ _ c.in-Full.is (c.write-in-Full.ensures _ _)))
+    (closing_as _ c.log_records-w.result.state _ _ _ _ c.in-Ok.is (c.write-in-Ok.ensures _ _)))
 
-pub returns-in-Stopped : goal.returns-in-Stopped
+pub returns-in-Err : goal.returns-in-Err
 unfolding logs_records
-returns-in-Stopped c =
+returns-in-Err c =
     step_out (search rules)
     (logged_on c.args.p c.args.st c.args.buf.now _ _ refl _ _ c.log_records-w.ensures (omega (arith, c.if-w-p.false))
-    (closing_as _ c.log_records-w.result.state c.args.buf.now c.log_records-w.new.pen.out.now _ _ c.in-Stopped.is c.go_on.ensures))
+    (closing_as _ c.log_records-w.result.state c.args.buf.now c.log_records-w.new.pen.out.now _ _ c.in-Err.is c.go_on.ensures))

@@ -14,16 +14,15 @@ use Rattle.rules.specs.Calls.{next, fill, fill_unequal, read_up_to}
 use Rattle.streams.specs.declared.State.{State}
 use Rattle.streams.specs.declared.Record.{Record}
 use Rattle.chemstation.specs.Next.{rule}
-use Rattle.reader.specs.Columns.{row_of, Columns, columns, filled_with, columns_with, Fills}
+use Rattle.reader.specs.Columns.{row_of, Held, columns, filled_with, columns_with, put_row, Room, Fills}
 use Rattle.reader.specs.declared.Row.{Row}
 use Rattle.reader.specs.declared.Filled.{Filled}
-use Rattle.reader.specs.declared.Closing.TheVariants.{Full}
-use Rattle.reader.proofs.ColumnLaws.{put_row}
-use Rattle.calls.specs.MakeCalls.{Room, columns_from, Gives}
+use Rattle.std.specs.Prelude.{Ok}
+use Rattle.calls.specs.MakeCalls.{columns_from, Gives}
 use Rattle.calls.proofs.Calling.{at_most}
 
 -- an equation of columns, column by column
-each : {c e : Columns} → c.time ≡ e.time → c.axis ≡ e.axis → c.unscaled ≡ e.unscaled → c.scaled ≡ e.scaled → c.minutes ≡ e.minutes → c.leftover ≡ e.leftover → c ≡ e
+each : {c e : Held} → c.time ≡ e.time → c.axis ≡ e.axis → c.unscaled ≡ e.unscaled → c.scaled ≡ e.scaled → c.minutes ≡ e.minutes → c.leftover ≡ e.leftover → c ≡ e
 each t a u s m l = λ j. record { time = t j; axis = a j; unscaled = u j; scaled = s j; minutes = m j; leftover = l j }
 
 -- ---- Next record
@@ -31,8 +30,8 @@ each t a u s m l = λ j. record { time = t j; axis = a j; unscaled = u j; scaled
 row_put : {A : Type 0} (f : Row → A) (r : Record) (i : ℕ) (l : List A) → i < length l → set l i (f (row_of r)) ≡ take i l ++ filled_with f (r ∷ []) (drop i l)
 row_put f r i l h = set_split l i (f (row_of r)) h ∙ rw (drop-drop 1 i l, add-one) refl
 
-pub given_row : (st : State) (s : List ℕ) (i : ℕ) (old : Columns) → Room (i + 1) old → (r : Record) (after : State) (k : ℕ) → read false (rule st) s ≡ got (record { shows = r; after = after }) k →
-    Gives next st s i (record { count = 1; consumed = k; state = after; closing = Full }) (record { entry = old; exit = put_row old i (row_of r) })
+pub given_row : (st : State) (s : List ℕ) (i : ℕ) (old : Held) → Room (i + 1) old → (r : Record) (after : State) (k : ℕ) → read false (rule st) s ≡ got (record { shows = r; after = after }) k →
+    Gives next st s i (record { count = 1; consumed = k; state = after; closing = Ok tt }) (record { entry = old; exit = put_row old i (row_of r) })
 given_row st s i old h r after k q =
     let e = h.0 in
     let m : i < length old.time = omega (arith, h.1) in
@@ -60,10 +59,10 @@ rejoined (suc j) (suc k) (x ∷ xs) h = rejoined j k xs (le_of_suc-le-suc h)
 parted : {A : Type 0} (i : ℕ) (l : List A) → l ≡ take i l ++ drop i l
 parted i l = sym (rejoined zero i l (omega arith))
 
-pub no_rows : (i : ℕ) (old : Columns) → old ≡ columns_from i [] old
+pub no_rows : (i : ℕ) (old : Held) → old ≡ columns_from i [] old
 no_rows i old = each (parted i old.time) (parted i old.axis) (parted i old.unscaled) (parted i old.scaled) (parted i old.minutes) (parted i old.leftover)
 
-pub unequal_at : (st : State) (s : List ℕ) (i : ℕ) (r : Filled) (old : Columns) → Gives fill_unequal st s 0 r (record { entry = old; exit = old }) → Gives fill_unequal st s i r (record { entry = old; exit = old })
+pub unequal_at : (st : State) (s : List ℕ) (i : ℕ) (r : Filled) (old : Held) → Gives fill_unequal st s 0 r (record { entry = old; exit = old }) → Gives fill_unequal st s i r (record { entry = old; exit = old })
 unequal_at st s i r old b = record { count = b.count; consumed = b.consumed; state = b.state; closing = b.closing; columns = no_rows i old }
 
 -- ---- Fill columns, on a part of k rows
@@ -87,7 +86,7 @@ around_long i k back l e =
 part_long : {A : Type 0} (i k n : ℕ) (l : List A) → i + k ≤ n → length l ≡ n → length (cut i k l) ≡ k
 part_long i k n l h e = length-take-le k (drop i l) (omega (arith, length-drop i l))
 
-pub filled_part : (k : ℕ) (st : State) (s : List ℕ) (i : ℕ) (r : Filled) (old back : Columns) → Room (i + k) old →
+pub filled_part : (k : ℕ) (st : State) (s : List ℕ) (i : ℕ) (r : Filled) (old back : Held) → Room (i + k) old →
     Fills st s false r
     (record { entry = columns (cut i k old.time) (cut i k old.axis) (cut i k old.unscaled) (cut i k old.scaled) (cut i k old.minutes) (cut i k old.leftover); exit = back }) →
     Gives (fill k) st s i r
@@ -125,7 +124,7 @@ behind {A = A} f given more i old e =
     let rest = drop (length given) old in
     rw (take_at (map g given) rest i size, drop_at (map g given) rest i size, drop-drop, map-append, length-append) (sym (append_assoc (map g given) (map g more) (drop (length given + length more) old)))
 
-pub columns_behind : (given more : List Record) (i : ℕ) (old : Columns) → length given ≡ i → columns_from i more (columns_with given old) ≡ columns_with (given ++ more) old
+pub columns_behind : (given more : List Record) (i : ℕ) (old : Held) → length given ≡ i → columns_from i more (columns_with given old) ≡ columns_with (given ++ more) old
 columns_behind given more i old e =
     each (behind (λ r. r.time) given more i old.time e) (behind (λ r. r.axis) given more i old.axis e) (behind (λ r. r.unscaled) given more i old.unscaled e)
     (behind (λ r. r.scaled) given more i old.scaled e) (behind (λ r. r.minutes) given more i old.minutes e) (behind (λ r. r.leftover) given more i old.leftover e)
