@@ -84,9 +84,11 @@ fn items_of(form: Form) -> &'static [Item]
 // ---- a form
 
 // The values of the items of a form, one behind the other, if the text has that form.
+#[tactic(auto, using(crate::proofs::Walk::begun, crate::proofs::Walk::not_found, crate::proofs::Walk::ends, crate::proofs::Walk::ended, crate::proofs::Walk::most_items))]
 fn values_of(form: Form, t: &[u8]) -> Option<[u8; 16]>
     ensures { result ≡ option_map padded (values_of (items_of form) t.now) }
 {
+    // Kept: no heap, so the values lie in an array of fixed size, with zeros behind them.
     let mut values = [0u8; 16];
     let mut n: usize = 0;
     let mut at: usize = 0;
@@ -159,10 +161,7 @@ fn date_by(form: Form, t: &[u8]) -> Option<u32>
     ensures { result ≡ date_by form t.now }
 {
     let moment = moment_of(form, values_of(form, t)?);
-    if !moment.is_day() {
-        return None;
-    }
-    Some(moment.instant())
+    moment.is_day().then(|| moment.instant())
 }
 
 // The one form that a text of so many bytes can have.

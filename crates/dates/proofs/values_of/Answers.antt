@@ -1,22 +1,9 @@
 -- The items are walked one after the other.
-use Rattle.std.proofs.Common.{◌≡◌, ◌<◌, None, ◌∙◌, length, arith}
-use Rattle.dates.specs.Dates.{items_of, values_of}
-use Rattle.dates.proofs.Walk.{not_found, ends, on_passed, on_value, ended, most_items}
+use Rattle.std.proofs.Common.{◌<◌, length, arith}
+use Rattle.dates.specs.Dates.{items_of}
+use Rattle.dates.proofs.Walk.{on_passed, on_value, most_items}
 use Rattle.dates.proofs.values_of.Goals as goal
 use Rattle.dates.proofs.values_of.Goals.{in-Some, in_default}
-
-pub returns-in_err-found : goal.returns-in_err-found
-returns-in_err-found c =
-    let h : c.loop-item.item-index < length (items_of c.args.form) = rw c.items_of-item-items.ensures at c.loop-item-test.true in
-    let e = rw (c.items_of-item-items.ensures, c.in_err-found.was) at c.item_at.ensures in
-    let g : values_of (items_of c.args.form) c.args.t.now ≡ None = not_found _ _ _ _ _ _ c.loop-item.invariant h e in
-    rw g c.from_residual.ensures
-
-pub overflow_add-at : goal.overflow_add-at
-overflow_add-at c =
-    let h : c.loop-item.item-index < length (items_of c.args.form) = rw c.items_of-item-items.ensures at c.loop-item-test.true in
-    let e = rw (c.items_of-item-items.ensures, c.in_ok-found.was) at c.item_at.ensures in
-    omega (arith, ends _ _ _ _ _ _ c.loop-item.invariant h c.in_ok-found.found e)
 
 pub loop-item-preserved : goal.loop-item-preserved
 loop-item-preserved c =
@@ -26,6 +13,3 @@ loop-item-preserved c =
       | in-Some w ↦ rw (w.values-is, w.n-is) (on_value _ _ _ _ _ _ c.loop-item.invariant h c.in_ok-found.found e w.in-Some.v w.in-Some.is (omega (arith, c.loop-item.invariant.few, h, most_items c.args.form)))
       | in_default w ↦ rw (w.values-is, w.n-is) (on_passed _ _ _ _ _ _ c.loop-item.invariant h c.in_ok-found.found e w.in_default.is)
     ]
-
-pub returns : goal.returns
-returns c = c.then_some.ensures ∙ ended _ _ _ _ _ _ c.loop-item.invariant (rw c.items_of-item-items.ensures at c.loop-item-test.false) (omega (arith, c.loop-item.invariant.few, c.loop-item.invariant.items, most_items c.args.form))
