@@ -4,11 +4,9 @@ use mathlib.Core.Bool.{true}
 use mathlib.Core.List.{List, ◌++◌}
 use Prim.Native.Nat.{ℕ, ◌≤◌}
 use native.Mathlib.Omega.{arith}
-use lib.Dec.{leb}
 use lib.ListN.{length, take, drop, length-append}
 use lib.Seq.{take-append_seam}
 use borrow.Author.Tests.{le-leb}
-use borrow.Table.Steps.{cases as by}
 use Rattle.rules.specs.Rule.{Read, got, stops, read, map_read}
 use Rattle.utf16.specs.Utf16.{bytes_of}
 use Rattle.utf16.specs.declared.Recoded.{Recoded}
@@ -17,7 +15,6 @@ use Rattle.written.specs.Written.{Puts}
 use Rattle.written.proofs.Puts.{room_for, length_for, no_room}
 use Rattle.std.specs.Prelude.{Option, None, Some}
 use Rattle.metadata.specs.Metadata.{Header, open_rule}
-use Rattle.fetch.specs.Fetch.{number_of_stop}
 use Rattle.error.specs.Number.{number_of}
 use Rattle.error.specs.declared.Refusal.{Refusal}
 use Rattle.fetch.specs.declared.described.Described.{Described}

@@ -22,22 +22,23 @@ pub enum Placed {
 
 // The date in a header. No form is longer than 24 characters: a text that has no room in 96 bytes is no date, and 24 units
 // of UTF-16 need not be measured for them.
+#[tactic(auto, using(crate::proofs::Told::in_buffer, crate::proofs::Told::the_text, crate::proofs::Told::too_long))]
 fn date_in(d: &Described<'_>) -> Option<u32>
     ensures { result ≡ date_of (text_in 7 d.now) }
 {
     match d.text(7) {
         Stored::Utf8(bytes) => date_of(bytes),
         Stored::Utf16(bytes) => {
+            // Kept: the programs and the C library use no heap, so the text is decoded into memory of a fixed size.
             let mut text = [0u8; 96];
-            match decode_utf16(bytes, &mut text) {
-                Some(t) => date_of(&text[..t.bytes]),
-                None => None,
-            }
+            let recoded = decode_utf16(bytes, &mut text)?;
+            date_of(&text[..recoded.bytes])
         }
     }
 }
 
 // The run date of a file, from its bytes: seconds from 1 January 1969, 00:00:00, if the file has a date.
+#[tactic(auto, using(crate::proofs::Told::tells_refusal, crate::proofs::Told::tells_date))]
 pub fn run_date(kind: u8, s: &[u8]) -> Result<Option<u32>, Refusal>
     ensures { date_told result ≡ run_date kind s.now }
 {
@@ -56,8 +57,8 @@ fn place_of(start: u32, end: u32, date: Option<u32>) -> Placed
     }
 }
 
-#[tactic(auto, unfolding(crate::specs::Volume::placed))]
 // Whether the run date of a file lies in the window from one instant up to, not including, another.
+#[tactic(auto, unfolding(crate::specs::Volume::placed))]
 pub fn in_window(start: u32, end: u32, kind: u8, s: &[u8]) -> Result<Placed, Refusal>
     ensures { place_told result ≡ placed start end kind s.now }
 {
