@@ -88,7 +88,7 @@ fn items_of(form: Form) -> &'static [Item]
 fn values_of(form: Form, t: &[u8]) -> Option<[u8; 16]>
     ensures { result ≡ option_map padded (values_of (items_of form) t.now) }
 {
-    // Kept: no heap, so the values lie in an array of fixed size, with zeros behind them.
+    // Kept: the programs and the C library use no heap, so the n values lie in an array of a fixed size, with zeros behind them.
     let mut values = [0u8; 16];
     let mut n: usize = 0;
     let mut at: usize = 0;
@@ -128,7 +128,7 @@ fn moment_of(form: Form, v: [u8; 16]) -> Moment
     requires { InRanges (items_of form) v }
     ensures { result ≡ moment_of form v }
 {
-    let minute_of_day = Moment {
+    let by_the_minute = Moment {
         year: year_of(v[2]),
         month: v[1],
         day: v[0],
@@ -139,18 +139,18 @@ fn moment_of(form: Form, v: [u8; 16]) -> Moment
     match form {
         Form::First => Moment {
             second: v[5],
-            ..minute_of_day
+            ..by_the_minute
         },
         Form::Second | Form::Third => Moment {
             hour: hour_of(v[3], v[5]),
-            ..minute_of_day
+            ..by_the_minute
         },
         Form::Fourth => Moment {
             month: v[0],
             day: v[1],
             hour: hour_of(v[3], v[6]),
             second: v[5],
-            ..minute_of_day
+            ..by_the_minute
         },
     }
 }

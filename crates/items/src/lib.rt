@@ -73,6 +73,7 @@ const MONTHS: [[u8; 3]; 12] = [
 fn letter_at(t: &[u8], at: usize) -> u8
     ensures { result ≡ lower (char_at t.now at) }
 {
+    // Kept: 0 is no letter, as the definition of a character at a place has it; an Option would be taken apart at each letter and say no more.
     t.get(at).map_or(0, |c| c.to_ascii_lowercase())
 }
 
@@ -90,6 +91,7 @@ fn month_at(t: &[u8]) -> Option<Found>
     let letters = [letter_at(t, 0), letter_at(t, 1), letter_at(t, 2)];
     let place = place_of(letters)?;
     Some(Found {
+        // Kept: the place is below twelve, and u8 has no From of a usize; try_from would add a None that never comes.
         value: Some(place as u8 + 1),
         width: 3,
     })
