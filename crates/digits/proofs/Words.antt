@@ -194,4 +194,3 @@ word_bytes n = low_bytes (digits 16 8 n) 0 (le (digits 16 8 n)) (subst AreBytes 
 -- two words of eight digits are the sixteen of the number
 pub sixteen : (n : ℕ) → to_le_bytes w64 (le (digits 16 8 (n / 4294967296))) ++ to_le_bytes w64 (le (digits 16 8 (n % 4294967296))) ≡ digits 16 16 n
 sixteen n = ap₂ (λ a b. a ++ b) (word_bytes (n / 4294967296)) (word_bytes (n % 4294967296)) ∙ sym (digits_parted 8 8 n)
-
