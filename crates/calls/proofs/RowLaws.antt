@@ -77,12 +77,6 @@ around i k back l = take i l ++ (back ++ drop k (drop i l))
 around_filled : {A : Type 0} (f : Row → A) (rs : List Record) (i k : ℕ) (l : List A) → length rs ≤ k → around i k (filled_with f rs (cut i k l)) l ≡ take i l ++ filled_with f rs (drop i l)
 around_filled f rs i k l h = rw (append_assoc (map (λ r. f (row_of r)) rs), rejoined (length rs) k (drop i l) h) refl
 
-pub around_long : {A : Type 0} (i k : ℕ) (back l : List A) → length back ≡ length (cut i k l) → length (around i k back l) ≡ length l
-around_long i k back l e =
-    let d = drop k (drop i l) in
-    let whole : around i k (cut i k l) l ≡ l = rw (rejoined zero k (drop i l) (omega arith), rejoined zero i l (omega arith)) refl in
-    omega (arith, ap length whole, length-append (take i l) (back ++ d), length-append back d, length-append (take i l) (cut i k l ++ d), length-append (cut i k l) d)
-
 part_long : {A : Type 0} (i k n : ℕ) (l : List A) → i + k ≤ n → length l ≡ n → length (cut i k l) ≡ k
 part_long i k n l h e = length-take-le k (drop i l) (omega (arith, length-drop i l))
 

@@ -28,10 +28,8 @@ pub fn open_atlas(kind: u8, s: &[u8], last: bool) -> Result<OpenedRun, Stopped>
         return Err(Refusal::KindWithoutAtlas.into());
     }
     let run = open_run(kind, s, last)?;
-    Ok(OpenedRun {
-        state: run.state.in_atlas(),
-        ..run
-    })
+    let state = run.state.in_atlas();
+    Ok(OpenedRun { state, ..run })
 }
 
 // Opens a run by a reading.

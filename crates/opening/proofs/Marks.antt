@@ -1,17 +1,9 @@
 -- Bytes that are the same.
-use mathlib.Core.Path.{◌≡◌, refl, sym, ap, ap₂, ◌∙◌}
-use mathlib.Core.Bool.{true, false, ◌&&◌}
+use mathlib.Core.Path.{◌≡◌, refl, ap₂}
 use mathlib.Core.List.{List, [], ◌∷◌}
-use Prim.Native.Nat.{ℕ, ◌+◌, ◌≤◌, ◌<◌}
-use native.Mathlib.Numerals.{add-one}
-use native.Mathlib.Omega.{arith}
+use Prim.Native.Nat.{ℕ}
 use lib.Dec.{T, eqb, eqb→eq}
-use lib.ListN.{length, drop, get_or}
-use lib.Seq.{drop-cons, drop-length, get_or-take, get_or-drop}
-use borrow.Author.Tests.{eq-eqb, ne_eqb}
 use mir.Facts.{and_yes}
-use Rattle.common.specs.Bytes.{part}
-use Rattle.common.proofs.Laws.{length_part}
 use Rattle.opening.specs.Opening.{same_bytes}
 
 -- bytes that are the same by the test are the same

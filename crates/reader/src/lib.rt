@@ -65,6 +65,7 @@ impl From<Record> for Row {
 }
 
 // Six lent columns, a place in each for a record.
+// Kept: six slices in place of one of rows, since C has them column by column.
 #[derive(Drop)]
 pub struct Columns<'a> {
     pub time: &'a mut [f64],

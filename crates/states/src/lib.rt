@@ -13,6 +13,7 @@ use streams::{
 };
 
 // A state as numbers. Those of DAD and UV differ between the readings by the reading alone.
+// Kept: numbers for the kind and the reading, since C keeps them and may hand back any.
 #[derive(Clone, Copy)]
 pub struct Stored {
     // time, intensity, slope or wavelength, step, multiplier, offset; 0 where the kind has no such number

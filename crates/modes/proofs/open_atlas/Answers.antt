@@ -28,4 +28,4 @@ returns-in_err-run c =
 pub returns : goal.returns
 returns c =
     let some = ap has_atlas (sym c.in_ok-try_from.ensures) ∙ sym c.has_atlas.ensures ∙ c.if-not-has_atlas.false in
-    rw c.in_atlas.ensures (opened_by_lem c.args.kind c.args.last c.args.s.now (Ok c.in_ok-run.run') (is_known _ c.in_ok-try_from.ensures) some c.in_ok-run.ensures)
+    rw c.in_atlas-state.ensures (opened_by_lem c.args.kind c.args.last c.args.s.now (Ok c.in_ok-run.run') (is_known _ c.in_ok-try_from.ensures) some c.in_ok-run.ensures)
