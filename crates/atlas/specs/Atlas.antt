@@ -107,6 +107,11 @@ plain_of (Dad st) = Dad st
 plain_of (Uv st) = Uv st
 plain_of (Array st) = Array st
 
+-- the scans due after a point, by those that the plain rule leaves and by what is then due
+abbrev pub scans_by : Option Scans → Scans → ℕ → Scans
+scans_by None scans due = scans
+scans_by (Some before) scans due = record { 0 = spent before.0 due }
+
 -- a state after a point of the plain rule, and a record with it, as the reading has them
 abbrev pub after_by : Option Scans → State → State
 after_by None st = st

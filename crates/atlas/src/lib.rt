@@ -4,7 +4,7 @@
 ghost use Rattle.std.specs.Prelude.{◌≡◌};
 ghost use Rattle.rules.specs.Rule.{map_read};
 ghost use Rattle.streams.specs.Next.{answer_of};
-ghost use Rattle.atlas.specs.Atlas.{spent, dad_done, scan_due, debit_of, plain_of, after_by, item_by};
+ghost use Rattle.atlas.specs.Atlas.{spent, dad_done, scan_due, debit_of, plain_of, scans_by, after_by, item_by};
 
 use error::Stopped;
 use streams::{ChemstationDadState, ChemstationUvState, Given, Scans, State};
@@ -63,22 +63,44 @@ pub fn plain_of(st: State) -> State
     }
 }
 
-// The state after a point, by the state that the plain rule makes; no point of DAD or UV leads to another kind.
+// The scans due after a point, by the reading: those that the plain rule leaves, or those before it less a spent one.
+fn scans_by(debit: Option<Scans>, scans: Scans, due: usize) -> Scans
+    ensures { result ≡ scans_by debit scans due }
+{
+    match debit {
+        Some(before) => spend(before, due),
+        None => scans,
+    }
+}
+
+// The state after a point, by the reading and the state that the plain rule makes; no point of DAD or UV leads to another kind. A plain
+// state is made anew too: handed on as it is, it cost each record more instructions (docs/BENCHMARKS.md).
 fn after_by(debit: Option<Scans>, st: State) -> State
     ensures { result ≡ after_by debit st }
 {
-    let Some(before) = debit else {
-        return st;
-    };
     match st {
-        State::Dad(d) => State::AtlasDad(ChemstationDadState {
-            n_scans_left: spend(before, d.n_bytes_left.0),
-            ..d
-        }),
-        State::Uv(u) => State::AtlasUv(ChemstationUvState {
-            n_scans_left: spend(before, u.n_wvs_left.0),
-            ..u
-        }),
+        State::Dad(d) => {
+            let after = ChemstationDadState {
+                n_scans_left: scans_by(debit, d.n_scans_left, d.n_bytes_left.0),
+                ..d
+            };
+            if debit.is_some() {
+                State::AtlasDad(after)
+            } else {
+                State::Dad(after)
+            }
+        }
+        State::Uv(u) => {
+            let after = ChemstationUvState {
+                n_scans_left: scans_by(debit, u.n_scans_left, u.n_wvs_left.0),
+                ..u
+            };
+            if debit.is_some() {
+                State::AtlasUv(after)
+            } else {
+                State::Uv(after)
+            }
+        }
         _ => st,
     }
 }
