@@ -31,6 +31,7 @@ pub struct ChemstationMetadata {
     pub offset_correction: f64,
     pub mult_correction: f64,
     // in bytes from the header's first, after trimming; 0, 0 for an empty text
+    // Kept: two arrays of eight numbers, since a rule of the project fixes this form, and the C interface lends both.
     pub text_starts: [usize; 8],
     pub text_lengths: [usize; 8],
 }
