@@ -52,6 +52,7 @@ fn header_size(kind: Kind, word: u32) -> usize
 }
 
 // The size of a file's header in bytes, all of which are there, or why there is none.
+// Kept: the kind, the bytes and whether they are the last side by side, as the C interface hands them over.
 pub fn read_agilent_header(kind: u8, s: &[u8], last: bool) -> Result<usize, Stopped>
     ensures { size_read result ≡ read last (size_rule kind) s.now }
 {

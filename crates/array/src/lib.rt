@@ -8,7 +8,7 @@ ghost use Rattle.streams.specs.Next.{sum_of, stepped, rule_by, answer_of};
 ghost use Rattle.array.specs.Array.{array_made, array_rule};
 
 use common::Number;
-use error::{Stopped, cut};
+use error::{Stopped, lacking};
 use floats::FromPattern;
 use streams::{ChemstationArrayRecordType, ChemstationArrayState, Given, Record, Scans, State};
 
@@ -46,13 +46,13 @@ pub fn array_next(st: ChemstationArrayState, s: &[u8], last: bool) -> Result<Giv
     match st.record_type {
         ChemstationArrayRecordType::Float32Array => {
             if s.len() < 4 {
-                return Err(cut(last));
+                return Err(lacking(last, false));
             }
             array_given(st, f64::from_pattern(u32::le_at(s, 0)), 4)
         }
         ChemstationArrayRecordType::Float64Array => {
             if s.len() < 8 {
-                return Err(cut(last));
+                return Err(lacking(last, false));
             }
             array_given(st, f64::from_pattern(u64::le_at(s, 0)), 8)
         }

@@ -39,7 +39,7 @@ fn stop_number(z: Stopped) -> u8
     ensures { result ≡ stop_number (stop_of z) }
 {
     match z {
-        Stopped::Refused(r) => error::number_of(r),
+        Stopped::Refused(r) => u8::from(r),
         Stopped::Finished => 0,
         Stopped::MoreBytes => MORE_BYTES,
     }
@@ -272,7 +272,7 @@ pub extern "C" fn chemstation_fill(
     };
     let Some(st) = kept.state() else {
         *given = [0, 0];
-        return error::number_of(Refusal::UnknownKind);
+        return Refusal::UnknownKind.into();
     };
     let f = reader::fill_slices(st, s, last, time, axis, unscaled, scaled, minutes, leftover);
     let after = Stored::from(f.state);
@@ -299,7 +299,7 @@ pub extern "C" fn chemstation_sum(values: &[f64], sum: &mut i64) -> u8
             GIVEN
         }
         None => GIVEN,
-        Some(Err(r)) => error::number_of(r),
+        Some(Err(r)) => u8::from(r),
     }
 }
 
@@ -311,7 +311,7 @@ pub extern "C" fn chemstation_date(kind: u8, s: &[u8], instant: &mut u32) -> u8
     ensures { DatesInto (run_date kind s.now) result instant.old instant.new }
 {
     match volumes::run_date(kind, s) {
-        Err(r) => error::number_of(r),
+        Err(r) => u8::from(r),
         Ok(None) => NO_DATE,
         Ok(Some(i)) => {
             *instant = i;
@@ -326,7 +326,7 @@ pub extern "C" fn chemstation_window(kind: u8, s: &[u8], start: u32, end: u32) -
     ensures { result ≡ place_number (placed start end kind s.now) }
 {
     match volumes::in_window(start, end, kind, s) {
-        Err(r) => error::number_of(r),
+        Err(r) => u8::from(r),
         Ok(Placed::Undated) => NO_DATE,
         Ok(Placed::Inside) => IN_WINDOW,
         Ok(Placed::Outside) => OUT_OF_WINDOW,

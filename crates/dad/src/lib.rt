@@ -8,7 +8,7 @@ ghost use Rattle.streams.specs.Next.{sum_of, stepped, rule_by, answer_of};
 ghost use Rattle.dad.specs.Dad.{width_of, dad_made, dad_point, dad_scan, dad_rule};
 
 use common::{Endian, Number};
-use error::{Stopped, cut};
+use error::{Stopped, lacking};
 use floats::minutes_of;
 use streams::{Bytes, ChemstationDadState, Delta, Given, Record, Scans, State, delta_at};
 
@@ -68,13 +68,13 @@ fn dad_scan(st: ChemstationDadState, s: &[u8], last: bool) -> Result<Given, Stop
     ensures { answer_of result ≡ map_read (stepped (sum_of (State.Dad st))) (read_at last (dad_scan st.n_scans_left) 0 s.now) }
 {
     if s.len() < TYPE {
-        return Err(cut(last));
+        return Err(lacking(last, false));
     }
     if u16::le_at(s, 0) != 67 {
         return Err(Stopped::Finished);
     }
     if s.len() < HEAD {
-        return Err(cut(last));
+        return Err(lacking(last, false));
     }
     let bytes = (u16::le_at(s, 2) as usize).saturating_sub(HEAD);
     if bytes == 0 {

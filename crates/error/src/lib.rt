@@ -1,7 +1,7 @@
 // Why there is no record and no header: the answers that every operation shares, and the papers' numbers for them.
 #![tactic(auto)]
 
-ghost use Rattle.std.specs.Prelude.{◌≡◌, [], true, false};
+ghost use Rattle.std.specs.Prelude.{◌≡◌, []};
 ghost use Rattle.rules.specs.Rule.{lacks};
 ghost use Rattle.error.specs.Number.{number_of, stop_of};
 ghost use Rattle.error.specs.declared.Stopped.TheVariants.{Refused};
@@ -68,25 +68,4 @@ pub fn lacking(last: bool, may_end: bool) -> Stopped
         (true, false) => Stopped::Refused(Refusal::Incomplete),
         (true, true) => Stopped::Finished,
     }
-}
-
-// A due field ends past the bytes, told whether they are the last.
-pub fn cut(last: bool) -> Stopped
-    ensures { stop_of result ≡ lacks last false [] }
-{
-    lacking(last, false)
-}
-
-// The same where no bytes are left and the file may end there.
-pub fn ended(last: bool) -> Stopped
-    ensures { stop_of result ≡ lacks last true [] }
-{
-    lacking(last, true)
-}
-
-// The number of a refusal.
-pub fn number_of(r: Refusal) -> u8
-    ensures { result ≡ number_of r }
-{
-    u8::from(r)
 }

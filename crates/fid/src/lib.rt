@@ -9,7 +9,7 @@ ghost use Rattle.streams.specs.Next.{sum_of, item_of, stepped, rule_by, answer_o
 ghost use Rattle.fid.specs.Fid.{fid_made, fid_rule};
 
 use common::Number;
-use error::{Stopped, cut, ended};
+use error::{Stopped, lacking};
 use streams::{ChemstationFidState, Given, Record, State};
 
 // Bytes of a delta, and of a restart: its mark, high and low.
@@ -58,17 +58,17 @@ pub fn fid_next(st: ChemstationFidState, s: &[u8], last: bool) -> Result<Given, 
     ensures { answer_of result ≡ read last (rule_by (State.Fid st) (fid_rule st)) s.now }
 {
     if s.is_empty() {
-        return Err(ended(last));
+        return Err(lacking(last, true));
     }
     if s.len() < DELTA {
-        return Err(cut(last));
+        return Err(lacking(last, false));
     }
     let v = i16::be_at(s, 0);
     if v != 32767 {
         return fid_slope(st, v);
     }
     if s.len() < RESTART {
-        return Err(cut(last));
+        return Err(lacking(last, false));
     }
     fid_restart(st, i32::be_at(s, 2), u16::be_at(s, 6))
 }

@@ -11,6 +11,7 @@ use error::Refusal;
 use pascal::TextField;
 
 // How the start and the end of a run are stored.
+// Kept: `Nowhere` as a third case, since an `Option` of the two others would only add a second match.
 #[derive(Clone, Copy, Debug, PartialEq, Eq)]
 pub enum Clock {
     Nowhere,

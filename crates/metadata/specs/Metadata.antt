@@ -1,5 +1,5 @@
 -- What a header says, and the checks on it: document 01, 'Header' and 'Open' (FORMAT 4.3 to 4.6).
-use Rattle.std.specs.Prelude.{cond, List, [], ◌∷◌, map, ℕ, leb, ltb, eqb, length, take, replicate, Float, Option, Some, None, Result, Ok, Err}
+use Rattle.std.specs.Prelude.{cond, List, [], ◌∷◌, map, ℕ, leb, ltb, eqb, length, take, Float, Option, Some, None, Result, Ok, Err}
 use Rattle.std.specs.Float.{binary32, binary64}
 use Rattle.std.specs.Float.Ieee.{sub, div, of_int, of_bits}
 use Rattle.rules.specs.Rule.{Rule, gives, refuses, ◌>>=◌, ◌>>◌, map_rule, Read, got, stops}
@@ -125,22 +125,6 @@ after_bytes kind h = metadata_rule h >>= after_description kind h
 -- 'All of the above, in that order. 5: ..'
 unfoldable pub open_rule : ℕ → Rule Header
 open_rule kind = header_rule kind >>= after_bytes kind
-
--- the description of a run that was refused: all zero
-unfoldable pub blank : ChemstationMetadata
-blank = record {
-  edition = 0;
-  size = 0;
-  sequence = 0;
-  vial = 0;
-  replicate = 0;
-  start_time = double 0;
-  end_time = double 0;
-  offset_correction = double 0;
-  mult_correction = double 0;
-  text_starts = replicate 8 0;
-  text_lengths = replicate 8 0;
-}
 
 -- ---- Open's answer
 

@@ -8,7 +8,7 @@ ghost use Rattle.agilent.specs.Header.{kind_number};
 ghost use Rattle.layouts.specs.Table.{look, minima, clocks};
 ghost use Rattle.layouts.specs.Editions.{edition_number, stored};
 ghost use Rattle.layouts.specs.declared.Clock.TheVariants.{Nowhere};
-ghost use Rattle.metadata.specs.Metadata.{time_at, double_at, described_by, described_rule, metadata_rule, step_of, after_description, after_bytes, open_rule, blank, header_read};
+ghost use Rattle.metadata.specs.Metadata.{time_at, double_at, described_by, described_rule, metadata_rule, step_of, after_description, after_bytes, open_rule, header_read};
 ghost use Rattle.metadata.specs.Remaining.{header_of};
 
 use agilent::{Kind, read_agilent_header};
@@ -31,6 +31,7 @@ pub struct ChemstationMetadata {
     pub offset_correction: f64,
     pub mult_correction: f64,
     // in bytes from the header's first, after trimming; 0, 0 for an empty text
+    // Kept: two arrays of eight numbers, since a rule of the project fixes this form, and the C interface lends both.
     pub text_starts: [usize; 8],
     pub text_lengths: [usize; 8],
 }
@@ -122,25 +123,6 @@ fn metadata_of(h: &[u8]) -> Result<ChemstationMetadata, Refusal>
         return Err(Refusal::BelowEditionMinimum);
     }
     WholeHeader { bytes: h, edition }.describe()
-}
-
-// The description of a run that is refused.
-pub fn blank() -> ChemstationMetadata
-    ensures { result ≡ blank }
-{
-    ChemstationMetadata {
-        edition: 0,
-        size: 0,
-        sequence: 0,
-        vial: 0,
-        replicate: 0,
-        start_time: 0.0,
-        end_time: 0.0,
-        offset_correction: 0.0,
-        mult_correction: 0.0,
-        text_starts: [0usize; 8],
-        text_lengths: [0usize; 8],
-    }
 }
 
 // ---- Open, as far as the header goes

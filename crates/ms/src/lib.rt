@@ -10,7 +10,7 @@ ghost use Rattle.streams.specs.Next.{item_of, stepped, rule_by, answer_of};
 ghost use Rattle.ms.specs.Ms.{ms_made, ms_point, ms_scans, ms_rule};
 
 use common::Number;
-use error::{Refusal, Stopped, cut};
+use error::{Refusal, Stopped, lacking};
 use floats::minutes_of;
 use streams::{ChemstationMsState, Given, Points, Record, Scans, State};
 
@@ -65,7 +65,7 @@ fn ms_point(st: ChemstationMsState, s: &[u8], at: usize, last: bool) -> Result<G
     ensures { (v : Sum Float) → answer_of result ≡ map_read (stepped v) (read_at last (ms_point st.n_scans_left st.n_mzs_left st.cur_time st.stored_time) at s.now) }
 {
     if s.len() - at < POINT {
-        return Err(cut(last));
+        return Err(lacking(last, false));
     }
     let mz = u16::be_at(s, at);
     let value = ms_intensity(u16::be_at(s, at + 2));
@@ -77,7 +77,7 @@ fn ms_point(st: ChemstationMsState, s: &[u8], at: usize, last: bool) -> Result<G
         return ms_given(within, mz, value, at + POINT);
     }
     if s.len() - at < LAST_POINT {
-        return Err(cut(last));
+        return Err(lacking(last, false));
     }
     let behind = ChemstationMsState {
         n_scans_left: Scans(st.n_scans_left.0 - 1),
@@ -93,7 +93,7 @@ fn ms_scan(scans: Scans, points: Points, s: &[u8], at: usize, last: bool) -> Res
     ensures { (v : Sum Float) → answer_of result ≡ map_read (stepped v) (read_at last (ms_scans scans.0) at s.now) }
 {
     if s.len() - at < HEAD {
-        return Err(cut(last));
+        return Err(lacking(last, false));
     }
     let stored_time = u32::be_at(s, at + COUNT);
     let st = ChemstationMsState {
@@ -113,7 +113,7 @@ fn ms_scans(due: Scans, s: &[u8], last: bool) -> Result<Given, Stopped>
     for passed in 0..due.0 {
         let at = passed * EMPTY_SCAN;
         if s.len() - at < COUNT {
-            return Err(cut(last));
+            return Err(lacking(last, false));
         }
         let count = u16::be_at(s, at);
         if count < 14 {
@@ -124,7 +124,7 @@ fn ms_scans(due: Scans, s: &[u8], last: bool) -> Result<Given, Stopped>
             return ms_scan(Scans(due.0 - passed), Points(points as usize), s, at, last);
         }
         if s.len() - at < EMPTY_SCAN {
-            return Err(cut(last));
+            return Err(lacking(last, false));
         }
     }
     Err(Stopped::Finished)

@@ -8,7 +8,7 @@ ghost use Rattle.streams.specs.Next.{sum_of, item_of, stepped, rule_by, answer_o
 ghost use Rattle.mwd.specs.Mwd.{mwd_made, mwd_point, mwd_rule};
 
 use common::{Endian, Number};
-use error::{Stopped, cut, ended};
+use error::{Stopped, lacking};
 use streams::{ChemstationMwdState, Given, Points, Record, State, delta_at};
 
 // Bytes of a group's count of points.
@@ -59,14 +59,14 @@ pub fn mwd_next(st: ChemstationMwdState, s: &[u8], last: bool) -> Result<Given, 
     ensures { answer_of result ≡ read last (rule_by (State.Mwd st) (mwd_rule st)) s.now }
 {
     if s.is_empty() {
-        return Err(ended(last));
+        return Err(lacking(last, true));
     }
     let points = st.n_wvs_left;
     if points.0 != 0 {
         return mwd_point(st, points, s, 0, last);
     }
     if s.len() < GROUP {
-        return Err(cut(last));
+        return Err(lacking(last, false));
     }
     // the top 4 bits are no part of the count
     let count = u16::be_at(s, 0) % 4096;

@@ -8,6 +8,7 @@ use error::Refusal;
 use trim::{Extent, trim_utf8};
 
 // The field of a text.
+// Kept: `Absent` as a fourth case, since an `Option` of the three others would only add a second match.
 #[derive(Clone, Copy, Debug, PartialEq, Eq)]
 pub enum TextField {
     // the edition has no such text

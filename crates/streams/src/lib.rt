@@ -232,14 +232,14 @@ pub fn delta_at(order: Endian, s: &[u8], at: usize, last: bool) -> Result<(Delta
     ensures { delta_read result ≡ read_at last (delta (order_of order)) at s.now }
 {
     if s.len() - at < 2 {
-        return Err(error::cut(last));
+        return Err(error::lacking(last, false));
     }
     let v = i16::in_order(order, s, at);
     if v != -32768 {
         return Ok((Delta::By(v), at + 2));
     }
     if s.len() - at < 6 {
-        return Err(error::cut(last));
+        return Err(error::lacking(last, false));
     }
     Ok((Delta::Absolute(i32::in_order(order, s, at + 2)), at + 6))
 }

@@ -8,7 +8,7 @@ ghost use Rattle.streams.specs.Next.{sum_of, item_of, stepped, rule_by, answer_o
 ghost use Rattle.uv.specs.Uv.{uv_made, uv_point, uv_begun, uv_scan, uv_left, uv_rule};
 
 use common::{Endian, Number};
-use error::{Refusal, Stopped, cut};
+use error::{Refusal, Stopped, lacking};
 use floats::minutes_of;
 use streams::{ChemstationUvState, Given, Points, Record, Scans, State, delta_at};
 
@@ -94,7 +94,7 @@ fn uv_scan(st: ChemstationUvState, s: &[u8], last: bool) -> Result<Given, Stoppe
     ensures { answer_of result ≡ map_read (stepped (sum_of (State.Uv st))) (read_at last (uv_scan st) 0 s.now) }
 {
     if s.len() < RANGE {
-        return Err(cut(last));
+        return Err(lacking(last, false));
     }
     let time = u32::le_at(s, 4);
     let start = u16::le_at(s, 8);
@@ -103,14 +103,14 @@ fn uv_scan(st: ChemstationUvState, s: &[u8], last: bool) -> Result<Given, Stoppe
         return Err(Stopped::Refused(Refusal::UvStartAboveEnd));
     }
     if s.len() < STEP {
-        return Err(cut(last));
+        return Err(lacking(last, false));
     }
     let step = u16::le_at(s, 12);
     if step == 0 {
         return Err(Stopped::Refused(Refusal::UvStepZero));
     }
     if s.len() < HEAD {
-        return Err(cut(last));
+        return Err(lacking(last, false));
     }
     let begun = uv_begun(st, time, start, end, step);
     uv_point(begun, st.n_scans_left, s, HEAD, last)

@@ -11,11 +11,11 @@ returns-then-st-eq0 c = sym (array_none c.args.st c.args.last c.args.s.now c.if-
 
 pub returns-then-s-lt4 : goal.returns-then-s-lt4
 returns-then-s-lt4 c =
-    ap stops c.cut.ensures ∙ sym (array_cut c.args.st c.args.last c.args.s.now 4 _ c.if-st-eq0.false (ap stored c.in-Float32Array.is) (omega arith))
+    ap stops c.lacking.ensures ∙ sym (array_cut c.args.st c.args.last c.args.s.now 4 _ c.if-st-eq0.false (ap stored c.in-Float32Array.is) (omega arith))
 
 pub returns-then-s-lt8 : goal.returns-then-s-lt8
 returns-then-s-lt8 c =
-    ap stops c.cut-then-s-lt8.ensures ∙ sym (array_cut c.args.st c.args.last c.args.s.now 8 _ c.if-st-eq0.false (ap stored c.in-Float64Array.is) (omega arith))
+    ap stops c.lacking-then-s-lt8.ensures ∙ sym (array_cut c.args.st c.args.last c.args.s.now 8 _ c.if-st-eq0.false (ap stored c.in-Float64Array.is) (omega arith))
 
 pub returns-else-s-lt4 : goal.returns-else-s-lt4
 returns-else-s-lt4 c =

@@ -5,7 +5,7 @@ use Rattle.chemread.proofs.chemstation_fill.Goals as goal
 
 pub returns-in_default : goal.returns-in_default
 returns-in_default c =
-    rw c.number_of.ensures (fills_nothing _ _ _ _ (sym c.state.ensures ∙ c.in_default.is))
+    rw c.into.ensures (fills_nothing _ _ _ _ (sym c.state.ensures ∙ c.in_default.is))
 
 pub returns : goal.returns
 returns c =

@@ -7,7 +7,7 @@ use Rattle.dad.proofs.DadLaws.{dad_type_cut, dad_other, dad_head_cut, dad_none, 
 use Rattle.dad.proofs.dad_scan.Goals as goal
 
 pub returns-then-s-lt-TYPE : goal.returns-then-s-lt-TYPE
-returns-then-s-lt-TYPE c = rw (c.cut.ensures, dad_type_cut c.args.st c.args.last c.args.s.now (omega arith))
+returns-then-s-lt-TYPE c = rw (c.lacking.ensures, dad_type_cut c.args.st c.args.last c.args.s.now (omega arith))
 
 pub returns-then-le_at-ne67 : goal.returns-then-le_at-ne67
 returns-then-le_at-ne67 c =
@@ -15,7 +15,7 @@ returns-then-le_at-ne67 c =
 
 pub returns-then-s-lt-HEAD : goal.returns-then-s-lt-HEAD
 returns-then-s-lt-HEAD c =
-    rw (c.cut-then-s-lt-HEAD.ensures, dad_head_cut c.args.st c.args.last c.args.s.now c.le_at.ensures c.if-le_at-ne67.false (omega arith) (omega arith))
+    rw (c.lacking-then-s-lt-HEAD.ensures, dad_head_cut c.args.st c.args.last c.args.s.now c.le_at.ensures c.if-le_at-ne67.false (omega arith) (omega arith))
 
 pub returns-then-bytes-eq0 : goal.returns-then-bytes-eq0
 returns-then-bytes-eq0 c =

@@ -19,12 +19,12 @@ use Rattle.fid.proofs.fid_next.Goals as goal
 
 pub returns-then-is_empty : goal.returns-then-is_empty
 returns-then-is_empty c =
-    ap stops c.ended.ensures ∙ sym (rule_reads (Fid c.args.st) (fid_rule c.args.st) c.args.last c.args.s.now (fid_none c.args.st c.args.last c.args.s.now (eqb-true _ _ (sym c.is_empty.ensures ∙ c.if-is_empty.true))))
+    ap stops c.lacking.ensures ∙ sym (rule_reads (Fid c.args.st) (fid_rule c.args.st) c.args.last c.args.s.now (fid_none c.args.st c.args.last c.args.s.now (eqb-true _ _ (sym c.is_empty.ensures ∙ c.if-is_empty.true))))
 
 pub returns-then-s-lt-DELTA : goal.returns-then-s-lt-DELTA
 returns-then-s-lt-DELTA c =
     let some = eqb-false _ _ (sym c.is_empty.ensures ∙ c.if-is_empty.false) in
-    ap stops c.cut.ensures ∙ sym (rule_reads (Fid c.args.st) (fid_rule c.args.st) c.args.last c.args.s.now (fid_cut c.args.st c.args.last c.args.s.now (omega (arith, some)) (omega arith)))
+    ap stops c.lacking-then-s-lt-DELTA.ensures ∙ sym (rule_reads (Fid c.args.st) (fid_rule c.args.st) c.args.last c.args.s.now (fid_cut c.args.st c.args.last c.args.s.now (omega (arith, some)) (omega arith)))
 
 pub returns-then-v-ne32767 : goal.returns-then-v-ne32767
 returns-then-v-ne32767 c =
@@ -37,7 +37,7 @@ returns-then-v-ne32767 c =
 pub returns-then-s-lt-RESTART : goal.returns-then-s-lt-RESTART
 returns-then-s-lt-RESTART c =
     let v = is_int_lem w16 32767 c.be_at-v.ensures (search rules) c.if-v-ne32767.false in
-    ap stops c.cut-then-s-lt-RESTART.ensures ∙ sym (rule_reads (Fid c.args.st) (fid_rule c.args.st) c.args.last c.args.s.now (fid_restart_cut c.args.st c.args.last c.args.s.now (omega arith) (omega arith) v))
+    ap stops c.lacking-then-s-lt-RESTART.ensures ∙ sym (rule_reads (Fid c.args.st) (fid_rule c.args.st) c.args.last c.args.s.now (fid_restart_cut c.args.st c.args.last c.args.s.now (omega arith) (omega arith) v))
 
 pub returns : goal.returns
 returns c =

@@ -8,7 +8,7 @@ use Rattle.ms.proofs.ms_point.Goals as goal
 
 pub returns-then-s-at-lt-POINT : goal.returns-then-s-at-lt-POINT
 returns-then-s-at-lt-POINT c v =
-    ap stops c.cut.ensures ∙ ap (map_read (stepped v)) (sym (point_cut c.args.st.n_scans_left c.args.st.n_mzs_left c.args.st.cur_time c.args.st.stored_time c.args.last c.args.at c.args.s.now (omega arith) (omega arith)))
+    ap stops c.lacking.ensures ∙ ap (map_read (stepped v)) (sym (point_cut c.args.st.n_scans_left c.args.st.n_mzs_left c.args.st.cur_time c.args.st.stored_time c.args.last c.args.at c.args.s.now (omega arith) (omega arith)))
 
 pub returns-then-st-ne1 : goal.returns-then-st-ne1
 returns-then-st-ne1 c v =
@@ -17,7 +17,7 @@ returns-then-st-ne1 c v =
 
 pub returns-then-s-at-lt-LAST_POINT : goal.returns-then-s-at-lt-LAST_POINT
 returns-then-s-at-lt-LAST_POINT c v =
-    ap stops c.cut-then-s-at-lt-LAST_POINT.ensures ∙ ap (map_read (stepped v)) (sym (footer_cut c.args.st.n_scans_left c.args.st.n_mzs_left c.args.st.cur_time c.args.st.stored_time c.args.last c.args.at c.args.s.now (omega arith) (omega arith) c.if-st-ne1.false))
+    ap stops c.lacking-then-s-at-lt-LAST_POINT.ensures ∙ ap (map_read (stepped v)) (sym (footer_cut c.args.st.n_scans_left c.args.st.n_mzs_left c.args.st.cur_time c.args.st.stored_time c.args.last c.args.at c.args.s.now (omega arith) (omega arith) c.if-st-ne1.false))
 
 pub returns : goal.returns
 returns c v =

@@ -17,7 +17,7 @@ overflow_sub-s c = c.loop-passed.invariant.0
 
 pub returns-then-s-at-lt-COUNT : goal.returns-then-s-at-lt-COUNT
 returns-then-s-at-lt-COUNT c v =
-    ap stops c.cut.ensures ∙ ap (map_read (stepped v)) (sym (count_cut (c.args.due.0 - c.loop-passed.passed) (omega arith) c.args.last (c.loop-passed.passed * 28) c.args.s.now c.loop-passed.invariant.0 (omega arith)) ∙ c.loop-passed.invariant.1)
+    ap stops c.lacking.ensures ∙ ap (map_read (stepped v)) (sym (count_cut (c.args.due.0 - c.loop-passed.passed) (omega arith) c.args.last (c.loop-passed.passed * 28) c.args.s.now c.loop-passed.invariant.0 (omega arith)) ∙ c.loop-passed.invariant.1)
 
 pub returns-then-count-lt14 : goal.returns-then-count-lt14
 returns-then-count-lt14 c v =
@@ -28,7 +28,7 @@ returns-then-points-ne0 c v = c.ms_scan.ensures v ∙ ap (map_read (stepped v)) 
 
 pub returns-then-s-at-lt-EMPTY_SCAN : goal.returns-then-s-at-lt-EMPTY_SCAN
 returns-then-s-at-lt-EMPTY_SCAN c v =
-    ap stops c.cut-then-s-at-lt-EMPTY_SCAN.ensures ∙ ap (map_read (stepped v)) (sym (empty_cut (c.args.due.0 - c.loop-passed.passed) (omega arith) c.args.last (c.loop-passed.passed * 28) c.args.s.now (omega arith) (omega arith) (omega arith) (omega arith)) ∙ c.loop-passed.invariant.1)
+    ap stops c.lacking-then-s-at-lt-EMPTY_SCAN.ensures ∙ ap (map_read (stepped v)) (sym (empty_cut (c.args.due.0 - c.loop-passed.passed) (omega arith) c.args.last (c.loop-passed.passed * 28) c.args.s.now (omega arith) (omega arith) (omega arith) (omega arith)) ∙ c.loop-passed.invariant.1)
 
 pub loop-passed-preserved : goal.loop-passed-preserved
 loop-passed-preserved c =

@@ -6,7 +6,7 @@ use Rattle.mwd.proofs.MwdLaws.{mwd_none, mwd_within, mwd_cut, mwd_ends, mwd_grou
 use Rattle.mwd.proofs.mwd_next.Goals as goal
 
 pub returns-then-is_empty : goal.returns-then-is_empty
-returns-then-is_empty c = rw (c.ended.ensures, mwd_none c.args.st c.args.last c.args.s.now (eqb-true _ _ (sym c.is_empty.ensures ∙ c.if-is_empty.true)))
+returns-then-is_empty c = rw (c.lacking.ensures, mwd_none c.args.st c.args.last c.args.s.now (eqb-true _ _ (sym c.is_empty.ensures ∙ c.if-is_empty.true)))
 
 pub returns-then-points-ne0 : goal.returns-then-points-ne0
 returns-then-points-ne0 c =
@@ -16,7 +16,7 @@ returns-then-points-ne0 c =
 pub returns-then-s-lt-GROUP : goal.returns-then-s-lt-GROUP
 returns-then-s-lt-GROUP c =
     let some = eqb-false _ _ (sym c.is_empty.ensures ∙ c.if-is_empty.false) in
-    rw (c.cut.ensures, mwd_cut c.args.st c.args.last c.args.s.now c.if-points-ne0.false (omega (arith, some)) (omega arith))
+    rw (c.lacking-then-s-lt-GROUP.ensures, mwd_cut c.args.st c.args.last c.args.s.now c.if-points-ne0.false (omega (arith, some)) (omega arith))
 
 pub returns-then-count-eq0 : goal.returns-then-count-eq0
 returns-then-count-eq0 c =

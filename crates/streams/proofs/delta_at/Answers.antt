@@ -14,7 +14,7 @@ use Rattle.streams.proofs.delta_at.Goals as goal
 
 pub returns-then-s-at-lt2 : goal.returns-then-s-at-lt2
 returns-then-s-at-lt2 c =
-    ap stops c.cut.ensures ∙ sym (delta_cut (order_of c.args.order) c.args.last c.args.at c.args.s.now (omega arith) (omega arith))
+    ap stops c.lacking.ensures ∙ sym (delta_cut (order_of c.args.order) c.args.last c.args.at c.args.s.now (omega arith) (omega arith))
 
 pub returns-then-v : goal.returns-then-v
 returns-then-v c =
@@ -25,7 +25,7 @@ returns-then-v c =
 pub returns-then-s-at-lt6 : goal.returns-then-s-at-lt6
 returns-then-s-at-lt6 c =
     let v = is_int_lem w16 32768 c.in_order-v.ensures (search rules) c.if-v.false in
-    ap stops c.cut-then-s-at-lt6.ensures ∙ sym (delta_absolute_cut (order_of c.args.order) c.args.last c.args.at c.args.s.now (omega arith) (omega arith) v)
+    ap stops c.lacking-then-s-at-lt6.ensures ∙ sym (delta_absolute_cut (order_of c.args.order) c.args.last c.args.at c.args.s.now (omega arith) (omega arith) v)
 
 pub returns : goal.returns
 returns c =

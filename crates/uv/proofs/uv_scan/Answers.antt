@@ -5,7 +5,7 @@ use Rattle.uv.proofs.UvLaws.{uv_range_cut, uv_above, uv_step_cut, uv_step_zero, 
 use Rattle.uv.proofs.uv_scan.Goals as goal
 
 pub returns-then-s-lt-RANGE : goal.returns-then-s-lt-RANGE
-returns-then-s-lt-RANGE c = rw (c.cut.ensures, uv_range_cut c.args.st c.args.last c.args.s.now (omega arith))
+returns-then-s-lt-RANGE c = rw (c.lacking.ensures, uv_range_cut c.args.st c.args.last c.args.s.now (omega arith))
 
 pub returns-then-start-end : goal.returns-then-start-end
 returns-then-start-end c =
@@ -13,7 +13,7 @@ returns-then-start-end c =
 
 pub returns-then-s-lt-STEP : goal.returns-then-s-lt-STEP
 returns-then-s-lt-STEP c =
-    rw (c.cut-then-s-lt-STEP.ensures, uv_step_cut c.args.st c.args.last c.args.s.now c.le_at-time.ensures c.le_at-start.ensures c.le_at-end.ensures c.if-start-end.false (omega arith) (omega arith))
+    rw (c.lacking-then-s-lt-STEP.ensures, uv_step_cut c.args.st c.args.last c.args.s.now c.le_at-time.ensures c.le_at-start.ensures c.le_at-end.ensures c.if-start-end.false (omega arith) (omega arith))
 
 pub returns-then-step-eq0 : goal.returns-then-step-eq0
 returns-then-step-eq0 c =
@@ -21,7 +21,7 @@ returns-then-step-eq0 c =
 
 pub returns-then-s-lt-HEAD : goal.returns-then-s-lt-HEAD
 returns-then-s-lt-HEAD c =
-    rw (c.cut-then-s-lt-HEAD.ensures, uv_skip_cut c.args.st c.args.last c.args.s.now c.le_at-time.ensures c.le_at-start.ensures c.le_at-end.ensures c.if-start-end.false c.le_at-step.ensures c.if-step-eq0.false (omega arith) (omega arith))
+    rw (c.lacking-then-s-lt-HEAD.ensures, uv_skip_cut c.args.st c.args.last c.args.s.now c.le_at-time.ensures c.le_at-start.ensures c.le_at-end.ensures c.if-start-end.false c.le_at-step.ensures c.if-step-eq0.false (omega arith) (omega arith))
 
 pub returns : goal.returns
 returns c =
