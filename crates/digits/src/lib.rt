@@ -118,7 +118,10 @@ impl Pen<'_> {
         requires { self.old.at + 16 ≤ length self.old.out.now }
         ensures { Puts (digits 16 16 n) self.old self.new }
     {
-        self.put_text(&hex_word(n / 0x1_0000_0000).to_le_bytes());
-        self.put_text(&hex_word(n % 0x1_0000_0000).to_le_bytes());
+        let upper = hex_word(n / 0x1_0000_0000);
+        let lower = hex_word(n % 0x1_0000_0000);
+        // put at once, so that the compiler makes the two side by side
+        let both = u128::from(lower) * 0x1_0000_0000_0000_0000 + u128::from(upper);
+        self.put_text(&both.to_le_bytes());
     }
 }
