@@ -95,6 +95,7 @@ impl Pen<'_> {
     }
 
     // A number in decimal, and what ends its field.
+    // Kept: (d) std's `write!` says what it wrote only with an Ok, and no clause promises the Ok: what cannot fail here would be able to.
     pub fn put_number(&mut self, n: u64, sep: u8)
         requires { self.old.at + 21 ≤ length self.old.out.now }
         ensures put { Puts (number n sep) self.old self.new }
@@ -117,6 +118,7 @@ impl Pen<'_> {
     }
 
     // The 16 hexadecimal digits of n.
+    // Kept: (d) as in put_number, and most of a log's time goes here.
     #[inline(always)]
     pub fn put_bits(&mut self, n: u64)
         requires { self.old.at + 16 ≤ length self.old.out.now }
