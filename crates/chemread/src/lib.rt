@@ -20,6 +20,7 @@ use streams::Mode;
 use volumes::Placed;
 
 // ---- answers as numbers
+// Kept: (a) C reads numbers: include/chemstation.h names them.
 
 const MORE_BYTES: u8 = 101;
 
@@ -35,6 +36,7 @@ const IN_WINDOW: u8 = 105;
 const OUT_OF_WINDOW: u8 = 106;
 
 // The number of an answer without an outcome.
+// Kept: (d) no From: it would stand in the crate of `Stopped`, which does not know the numbers for C.
 fn stop_number(z: Stopped) -> u8
     ensures { result ≡ stop_number (stop_of z) }
 {
@@ -80,6 +82,7 @@ fn corrections_of(d: ChemstationMetadata) -> [f64; 4]
     ]
 }
 
+// Kept: (a) C lends the arrays one by one.
 // Opens a run by a reading: what its header says, and the state before the first record. Any other answer writes nothing.
 fn open_into(
     mode: Mode,

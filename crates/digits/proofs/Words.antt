@@ -11,7 +11,7 @@ use lib.Pow.{pow-add, pow_pos, pow_mono, split, shr-shr, mod-pow-add, mod-mod-po
 use Rattle.common.specs.Bytes.{le, AreBytes}
 use Rattle.digits.specs.Numbers.{digit, digits}
 use Rattle.std.specs.Int.{byte_at, bytes_low_first, to_le_bytes}
-use mir.Syntax.{w64}
+use mir.Syntax.{w128}
 use Rattle.digits.proofs.Digits.{no_branch}
 
 -- ---- digits of halves
@@ -188,9 +188,24 @@ low_bytes (b ∷ l) i n h e =
     here zero e low = ap (λ m. m % 256) (sym (div-one n) ∙ e) ∙ low
     here (suc i) e low = ap (λ m. m % 256) e ∙ low
 
-word_bytes : (n : ℕ) → to_le_bytes w64 (le (digits 16 8 n)) ≡ digits 16 8 n
-word_bytes n = low_bytes (digits 16 8 n) 0 (le (digits 16 8 n)) (subst AreBytes (eight_digits n) (digits_bytes (ones n))) (div-one (le (digits 16 8 n)))
+le_join : (a b : List ℕ) → le (a ++ b) ≡ le b * 256 ^ length a + le a
+le_join [] b = omega arith
+le_join (x ∷ a) b =
+    let one_more : le b * (256 ^ length a * 256) ≡ le b * 256 ^ length a * 256 = sym (mul_assoc (le b) (256 ^ length a) 256) in
+    rw (le_join a b, pow-suc 256 (length a), one_more) (omega arith)
+
+bytes_join : (a b : List ℕ) → AreBytes a → AreBytes b → AreBytes (a ++ b)
+unfolding AreBytes
+bytes_join [] b h k = k
+bytes_join (x ∷ a) b h k = (h.0, bytes_join a b h.1 k)
+
+eight_bytes : (n : ℕ) → AreBytes (digits 16 8 n)
+eight_bytes n = subst AreBytes (eight_digits n) (digits_bytes (ones n))
 
 -- two words of eight digits are the sixteen of the number
-pub sixteen : (n : ℕ) → to_le_bytes w64 (le (digits 16 8 (n / 4294967296))) ++ to_le_bytes w64 (le (digits 16 8 (n % 4294967296))) ≡ digits 16 16 n
-sixteen n = ap₂ (λ a b. a ++ b) (word_bytes (n / 4294967296)) (word_bytes (n % 4294967296)) ∙ sym (digits_parted 8 8 n)
+pub sixteen : (n : ℕ) → to_le_bytes w128 (le (digits 16 8 (n % 4294967296)) * 18446744073709551616 + le (digits 16 8 (n / 4294967296))) ≡ digits 16 16 n
+sixteen n =
+    let upper = digits 16 8 (n / 4294967296) in
+    let lower = digits 16 8 (n % 4294967296) in
+    let both = le lower * 18446744073709551616 + le upper in
+    low_bytes (upper ++ lower) 0 both (bytes_join upper lower (eight_bytes (n / 4294967296)) (eight_bytes (n % 4294967296))) (div-one both ∙ sym (le_join upper lower)) ∙ sym (digits_parted 8 8 n)

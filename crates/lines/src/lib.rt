@@ -14,6 +14,7 @@ use streams::Record;
 use sums::Total;
 
 // A double's bits, or nan, and what ends the field.
+#[inline(always)]
 pub fn put_double(pen: &mut Pen<'_>, x: f64, sep: u8)
     requires { pen.old.at + 17 ≤ length pen.old.out.now }
     ensures put { Puts (double_text x sep) pen.old pen.new }
@@ -27,6 +28,7 @@ pub fn put_double(pen: &mut Pen<'_>, x: f64, sep: u8)
 }
 
 // A line's letter.
+#[inline(always)]
 pub fn put_letter(pen: &mut Pen<'_>, b: u8)
     requires { pen.old.at + 2 ≤ length pen.old.out.now }
     ensures { Puts (b ∷ 32 ∷ []) pen.old pen.new }
@@ -36,6 +38,7 @@ pub fn put_letter(pen: &mut Pen<'_>, b: u8)
 }
 
 // The letter and the time of a record.
+#[inline(always)]
 fn put_time(pen: &mut Pen<'_>, t: f64)
     requires { pen.old.at + 19 ≤ length pen.old.out.now }
     ensures put { Puts (time_text t) pen.old pen.new }
@@ -46,6 +49,7 @@ fn put_time(pen: &mut Pen<'_>, t: f64)
 }
 
 // The values of a record, unscaled and scaled, to the end of its line.
+#[inline(always)]
 fn put_values(pen: &mut Pen<'_>, u: f64, s: f64)
     requires { pen.old.at + 34 ≤ length pen.old.out.now }
     ensures put { Puts (values_text u s) pen.old pen.new }
@@ -56,6 +60,7 @@ fn put_values(pen: &mut Pen<'_>, u: f64, s: f64)
 }
 
 // The line of a record on an axis.
+#[inline(always)]
 fn put_point(pen: &mut Pen<'_>, t: f64, x: f64, u: f64, s: f64)
     requires { pen.old.at + 70 ≤ length pen.old.out.now }
     ensures put { Puts (point_line t x u s) pen.old pen.new }
@@ -67,6 +72,7 @@ fn put_point(pen: &mut Pen<'_>, t: f64, x: f64, u: f64, s: f64)
 }
 
 // The line of a record.
+#[inline(always)]
 pub fn put_record(pen: &mut Pen<'_>, r: Record)
     requires { pen.old.at + 70 ≤ length pen.old.out.now }
     ensures put { Puts (record_line r) pen.old pen.new }

@@ -61,6 +61,7 @@ fn log_hand(st: State, p: Place, buf: &mut [u8], out: &mut [u8]) -> Ask
 }
 
 // The total before the first record: an array's values are not added up.
+// Kept: (d) a kind is any number until the run is opened: an enum would have to be made of it first, and 6 is named once.
 fn first_total(kind: u8) -> Total
     ensures { result ≡ first_total kind }
 {

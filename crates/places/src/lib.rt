@@ -19,7 +19,7 @@ use sums::Total;
 pub enum Phase {
     // the digit is due, of a run that is opened by this reading
     Digit(Mode),
-    // the header of a run of this kind
+    // the header of a run of this kind, any number: opening refuses those that are none
     Header(Mode, u8),
     Records(State),
     // the log is closed with 0: so many bytes of the last scan were left, and so many of them are still due
@@ -30,6 +30,8 @@ pub enum Phase {
 }
 
 // Where a run stands.
+// Kept: (d) the buffers stay parameters beside it, and three facts of them stand in the contracts: a struct over lent buffers takes no
+// ghost field, which the borrow checker does not cover beside a `&mut`, so the facts would be named as often.
 #[derive(Clone, Copy)]
 pub struct Place {
     pub phase: Phase,

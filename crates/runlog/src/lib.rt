@@ -76,11 +76,8 @@ pub fn compact(buf: &mut [u8], from: usize, to: usize) -> usize
     requires { (from ≤ to) × (to ≤ length buf.old) }
     ensures { (result ≡ to - from) × (buf.new ≡ take result (drop from buf.old) ++ drop result buf.old) }
 {
-    let n = to - from;
-    for i in 0..n {
-        buf[i] = buf[from + i];
-    }
-    n
+    buf.copy_within(from..to, 0);
+    to - from
 }
 
 // Nothing to compute: the contract is the theorem that every file has one log, and what the buffer's size is to it.
