@@ -1,8 +1,7 @@
 -- Texts one behind the other: how far the first k of them reach.
-use mathlib.Core.Path.{◌≡◌, refl, sym, ap, ap₂, ◌∙◌, subst}
+use mathlib.Core.Path.{◌≡◌, refl, sym, ap, ap₂, ◌∙◌}
 use mathlib.Core.List.{List, [], ◌∷◌, ◌++◌, map, append-nil, append_assoc}
 use Prim.Native.Nat.{ℕ, zero, suc, ◌+◌, ◌-◌, ◌*◌, ◌≤◌, ◌<◌}
-use native.Mathlib.Nat.{add-zero}
 use native.Mathlib.Numerals.{add-one}
 use native.Mathlib.Omega.{arith}
 use lib.ListN.{length, take, drop, set, get_or, get_or-eq_default, length-append, length-drop, length-set, replicate, drop_of_length-le, get_or-map}
@@ -13,17 +12,15 @@ use borrow.Author.Tests.{ltb-true, ltb-false}
 use borrow.Table.Steps.{cases as by}
 use lib.Seq.{paste, take-suc, take-suc-set, take_all, drop-drop}
 use borrow.Rule.Slice.PartMut.{put_mid, Post-is}
-use mir.Syntax.{w8}
-use mir.Val.{Fits}
 use Rattle.fetch.specs.declared.described.Described.{Described}
 use Rattle.layouts.specs.Table.{field_of}
 use Rattle.layouts.proofs.Tables.{table}
 use Rattle.written.proofs.Puts.{paste_next}
-use Rattle.fetch.specs.Fetch.{text_of, replaced_in}
-use Rattle.fetch.specs.Headers.{replaced_units}
+use Rattle.fetch.specs.Fetch.{text_of}
+use Rattle.fetch.specs.declared.stored.Stored.{Stored}
+use Rattle.fetch.specs.Headers.{text_in, replaced_units, utf8_in}
 use Rattle.fetch.proofs.Texts.{text_bounded}
-use Rattle.texts.specs.Eight.{texts_of, joined, starts_from, Texts, laid_out, texts_in, replaced_in_each, Lays}
-use Rattle.texts.specs.declared.FetchedTexts.{FetchedTexts}
+use Rattle.texts.specs.Eight.{texts_of, joined, starts_from, Texts, texts_in, replaced_in_each, Lays}
 
 -- ---- the eight
 
@@ -37,6 +34,13 @@ module _ (e : ℕ) (h : List ℕ) where
   text_of_lem k l = table (texts_of e h) [] 8 (λ k. text_of (field_of k e) h) refl k l
 
 module _ (d : Described) where
+  pub eight_texts : length (texts_in d) ≡ 8
+  eight_texts = eight d.says.edition d.bytes.now
+
+  -- text k, as the code has it
+  pub text_is : (k : ℕ) (t : Stored) → k < 8 → utf8_in t ≡ text_in k d → get_or (texts_in d) k [] ≡ utf8_in t
+  text_is k t l e = text_of_lem d.says.edition d.bytes.now k l ∙ sym e
+
   pub eight_counts : length (replaced_in_each d) ≡ 8
   unfolding replaced_in_each
   eight_counts = refl

@@ -1,30 +1,28 @@
 -- The answers, by what the rule reads; and each text is Fetch's.
-use mathlib.Core.Path.{◌≡◌, refl, sym, ap, ap₂, ◌∙◌, subst}
+use mathlib.Core.Path.{◌≡◌, refl, sym, ap, ap₂, ◌∙◌}
 use mathlib.Core.Bool.{Bool, true, false, ◌&&◌, cond, false≢true}
-use mathlib.Core.List.{List, [], ◌∷◌, ◌++◌, map, append_assoc}
+use mathlib.Core.List.{List, [], ◌++◌, append_assoc}
 use Prim.Native.Nat.{ℕ, ◌+◌, ◌-◌, ◌≤◌, ◌<◌}
 use native.Mathlib.Omega.{arith}
 use denote.Triple.Both.{Both}
 use lib.Dec.{leb}
 use lib.ListN.{length, take, drop, get_or, replicate, length-append}
 use lib.Seq.{take_at, drop_at}
-use borrow.Author.Tests.{le-leb, lt-leb, leb-true}
+use borrow.Author.Tests.{le-leb, lt-leb}
 use borrow.Table.Steps.{cases as by}
-use Rattle.rules.specs.Rule.{Stop, refused, Read, got, stops, read, map_read}
+use Rattle.rules.specs.Rule.{Read, got, stops, read, map_read}
 use Rattle.rules.proofs.Laws.{read_map}
-use Rattle.error.specs.Number.{number_of}
 use Rattle.error.specs.declared.Refusal.{Refusal}
 use Rattle.error.specs.declared.Refusal.TheVariants.{LentLength}
-use Rattle.layouts.specs.Table.{field_of}
 use Rattle.metadata.specs.Metadata.{Header, open_rule}
 use Rattle.std.specs.Prelude.{Result, Ok, Err}
 use Rattle.fetch.specs.declared.FetchedText.{FetchedText}
 use Rattle.fetch.specs.declared.described.Described.{Described}
-use Rattle.fetch.specs.Fetch.{text_of, fetch_rule, Outcome, wrote, refuse, number_of_stop, fetched, Fetches, replaced_by, passed_on}
+use Rattle.fetch.specs.Fetch.{fetch_rule, wrote, refuse, fetched, Fetches}
 use Rattle.fetch.specs.Headers.{IsHeader, IsRefusal}
 use Rattle.fetch.proofs.Fetches.{text_read, fetch_reads}
 use Rattle.texts.specs.declared.FetchedTexts.{FetchedTexts}
-use Rattle.texts.specs.Eight.{numbers, texts_of, eight_rule, joined, starts_from, Texts, laid_out, texts_after, text_at, outcome_of, replaced_of, FetchesAll, AsFetched, Lies, all_passed, texts_in, replaced_in_each, Lays}
+use Rattle.texts.specs.Eight.{texts_of, eight_rule, joined, Texts, laid_out, text_at, outcome_of, FetchesAll, AsFetched, Lies, all_passed, texts_in, replaced_in_each, Lays}
 use Rattle.texts.proofs.Joins.{eight, text_of_lem, before, none_before, grown, all_before, split_after, starts_at, length_at}
 
 -- ---- the rule

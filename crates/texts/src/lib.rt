@@ -74,25 +74,22 @@ fn stored_fit(lengths: &[usize; 8], room: usize) -> bool
     true
 }
 
-// Whether there is room for the eight texts of a header, text by text.
-fn measured_fit(d: &Described<'_>, room: usize) -> bool
-    ensures { result ≡ leb (length (joined (texts_in d.now))) room }
+// The bytes that the eight texts of a header take together, text by text, if there is room for them.
+fn joined_length(d: &Described<'_>, room: usize) -> Option<usize>
+    ensures { result ≡ written room (joined (texts_in d.now)) }
 {
     let mut n: usize = 0;
     for k in 0..8 {
-        match text_length(&d.text(k), room - n) {
-            None => return false,
-            Some(m) => n += m,
-        }
+        n += text_length(&d.text(k), room - n)?;
     }
-    true
+    Some(n)
 }
 
-// The same. No stored byte makes more than two: only where the room is less are the texts measured.
+// Whether there is room for them. No stored byte makes more than two: only where the room is less are the texts measured.
 fn fit(d: &Described<'_>, room: usize) -> bool
     ensures { result ≡ leb (length (joined (texts_in d.now))) room }
 {
-    stored_fit(&d.says.text_lengths, room / 2) || measured_fit(d, room)
+    stored_fit(&d.says.text_lengths, room / 2) || joined_length(d, room).is_some()
 }
 
 // Puts the eight texts of a header at the start of out, which has room for them, and says where.

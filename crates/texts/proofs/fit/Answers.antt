@@ -1,7 +1,6 @@
 -- By the stored bytes, or measured.
-use Rattle.std.proofs.Common.{◌≤◌, length, arith}
+use Rattle.std.proofs.Common.{arith}
 use Rattle.std.proofs.lemmas.Grind.{common_steps}
-use Rattle.texts.specs.Eight.{texts_in, joined}
 use Rattle.texts.proofs.Joins.{all_bounded}
 use Rattle.texts.proofs.fit.Goals as goal
 

@@ -2,7 +2,7 @@
 use Rattle.std.proofs.Common.{◌≡◌, ◌≤◌, length}
 use Rattle.texts.specs.Eight.{texts_in}
 use Rattle.texts.proofs.Joins.{before}
-use Rattle.texts.proofs.measured_fit.Given as goal
+use Rattle.texts.proofs.joined_length.Given as goal
 
 abbrev pub invariant-loop-k : goal.invariant-loop-k
 invariant-loop-k l = record { count : l.n ≡ length (before (texts_in l.d) l.k); room : l.n ≤ l.room }
