@@ -12,12 +12,19 @@ use Rattle.rules.specs.Rule.{Rule, gives, ◌>>=◌, ◌>>◌, bytes_as, Stop, R
 use Rattle.rules.proofs.Laws.{read_map, by_fit, got≢stops}
 use Rattle.rules.proofs.Places.{at_start, at_number, at_gives, at_cut, more_number, none, cut}
 use Rattle.common.specs.Bytes.{be, part}
-use Rattle.agilent.specs.Header.{check, known, size_of, header_rule, size_rule}
+use Rattle.agilent.specs.declared.Kind.{Kind}
+use Rattle.agilent.specs.declared.Kind.TheVariants.{Fid, Ms, Mwd, Dad, Uv, Array}
+use Rattle.agilent.specs.Header.{check, known, kind_number, size_of, header_rule, size_rule}
 use borrow.Table.Steps.{cases as by_bool}
 use Rattle.agilent.proofs.Checks.{passes, fails, by_check}
 
-pub is_known : (kind : ℕ) → 1 ≤ kind → kind ≤ 6 → known kind ≡ true
-is_known kind h l = rw (le-leb 1 kind h, le-leb kind 6 l) refl
+pub is_known : (kind : Kind) {number : ℕ} → kind_number kind ≡ number → known number ≡ true
+is_known Fid e = rw (← e) refl
+is_known Ms e = rw (← e) refl
+is_known Mwd e = rw (← e) refl
+is_known Dad e = rw (← e) refl
+is_known Uv e = rw (← e) refl
+is_known Array e = rw (← e) refl
 
 pub part_take : (at w n : ℕ) (s : List ℕ) → at + w ≤ length (take n s) → part at w (take n s) ≡ part at w s
 part_take at w n s h =

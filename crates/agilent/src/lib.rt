@@ -3,56 +3,77 @@
 
 ghost use Rattle.std.specs.Prelude.{◌≡◌, ◌<◌};
 ghost use Rattle.rules.specs.Rule.{read};
-ghost use Rattle.agilent.specs.Header.{size_of, size_rule, size_read};
+ghost use Rattle.agilent.specs.Header.{kind_number, Decodes, size_of, size_rule, size_read};
 
-use common::be_u32;
-use error::{Refusal, Stopped, cut};
+use common::Number;
+use error::{Refusal, Stopped, lacking};
 
-// What Size the header answers.
-#[derive(Clone, Copy)]
-pub enum HeaderSize {
-    Bytes(usize),
-    Stopped(Stopped),
+// The kinds of run files, with document 01's numbers. A file does not say its own.
+#[derive(Clone, Copy, Debug, PartialEq, Eq)]
+pub enum Kind {
+    Fid = 1,
+    Ms = 2,
+    Mwd = 3,
+    Dad = 4,
+    Uv = 5,
+    Array = 6,
 }
 
+impl TryFrom<u8> for Kind {
+    type Error = Refusal;
+
+    ghost try_from_gives = { Decodes };
+
+    fn try_from(number: u8) -> Result<Kind, Refusal> {
+        match number {
+            1 => Ok(Kind::Fid),
+            2 => Ok(Kind::Ms),
+            3 => Ok(Kind::Mwd),
+            4 => Ok(Kind::Dad),
+            5 => Ok(Kind::Uv),
+            6 => Ok(Kind::Array),
+            _ => Err(Refusal::UnknownKind),
+        }
+    }
+}
+
+// The smallest and the largest size of a header, in bytes.
+const SMALLEST: usize = 512;
+
+const LARGEST: usize = 20000;
+
 // The size in bytes that the size word says.
-fn header_size(kind: u8, word: u32) -> usize
+fn header_size(kind: Kind, word: u32) -> usize
     requires { 0 < word }
-    ensures { result ≡ size_of kind word }
+    ensures { result ≡ size_of (kind_number kind) word }
 {
     let size = 2 * (word as usize - 1);
-    if kind == 2 { size } else { size * 256 }
+    if kind == Kind::Ms { size } else { size * 256 }
 }
 
 // The size of a file's header in bytes, all of which are there, or why there is none.
-pub fn read_agilent_header(kind: u8, s: &[u8], last: bool) -> HeaderSize
+// Kept: the kind, the bytes and whether they are the last side by side, as the C interface hands them over.
+pub fn read_agilent_header(kind: u8, s: &[u8], last: bool) -> Result<usize, Stopped>
     ensures { size_read result ≡ read last (size_rule kind) s.now }
 {
-    // where a due field ends past the bytes
-    let short = HeaderSize::Stopped(cut(last));
-    if kind < 1 {
-        return HeaderSize::Stopped(Stopped::Refused(Refusal::UnknownKind));
-    }
-    if 6 < kind {
-        return HeaderSize::Stopped(Stopped::Refused(Refusal::UnknownKind));
-    }
+    let kind = Kind::try_from(kind)?;
     if s.len() < 268 {
-        return short;
+        return Err(lacking(last, false));
     }
-    let word = be_u32(s, 264);
+    let word = u32::be_at(s, 264);
     if word == 0 {
-        return HeaderSize::Stopped(Stopped::Refused(Refusal::SizeWordZero));
+        return Err(Refusal::SizeWordZero.into());
     }
     let size = header_size(kind, word);
-    if size < 512 {
-        return HeaderSize::Stopped(Stopped::Refused(Refusal::HeaderTooSmall));
+    if size < SMALLEST {
+        return Err(Refusal::HeaderTooSmall.into());
     }
-    if 20000 < size {
-        return HeaderSize::Stopped(Stopped::Refused(Refusal::HeaderTooLarge));
+    if LARGEST < size {
+        return Err(Refusal::HeaderTooLarge.into());
     }
     if s.len() < size {
-        short
+        Err(lacking(last, false))
     } else {
-        HeaderSize::Bytes(size)
+        Ok(size)
     }
 }

@@ -7,18 +7,16 @@ ghost use Rattle.streams.specs.Told.{told};
 ghost use Rattle.streams.specs.Next.{sum_of, stepped, rule_by, answer_of};
 ghost use Rattle.array.specs.Array.{array_made, array_rule};
 
-use common::{le_u32, le_u64};
-use error::{Stopped, cut};
-use floats::{f64_from_bits, f64_from_f32_bits};
-use streams::{ChemstationArrayRecordType, ChemstationArrayState, Next, Record, Scans, State};
+use common::Number;
+use error::{Stopped, lacking};
+use floats::FromPattern;
+use streams::{ChemstationArrayRecordType, ChemstationArrayState, Given, Record, Scans, State};
 
 // The record of a stored number, one scan fewer and a time step later.
-fn array_given(st: ChemstationArrayState, x: f64, n: usize) -> Next
+fn array_given(st: ChemstationArrayState, x: f64, n: usize) -> Result<Given, Stopped>
     requires { 0 < st.n_scans_left.0 }
     ensures { answer_of result ≡ got (stepped (sum_of (State.Array st)) (told (array_made st x) [])) n }
 {
-    let scans = st.n_scans_left.0;
-    let record_type = st.record_type;
     let cur_time = st.cur_time + st.time_step;
     let record = Record::Trace {
         time: cur_time,
@@ -26,37 +24,37 @@ fn array_given(st: ChemstationArrayState, x: f64, n: usize) -> Next
         scaled: x * st.mult_correction,
     };
     let state = ChemstationArrayState {
-        record_type,
-        n_scans_left: Scans(scans - 1),
+        n_scans_left: Scans(st.n_scans_left.0 - 1),
         cur_time,
         cur_intensity: x,
-        time_step: st.time_step,
-        mult_correction: st.mult_correction,
+        ..st
     };
-    Next::Given(record, State::Array(state), n)
+    Ok(Given {
+        record,
+        state: State::Array(state),
+        bytes: n,
+    })
 }
 
 // The next record of an array.
-pub fn array_next(st: ChemstationArrayState, s: &[u8], last: bool) -> Next
+pub fn array_next(st: ChemstationArrayState, s: &[u8], last: bool) -> Result<Given, Stopped>
     ensures { answer_of result ≡ read last (rule_by (State.Array st) (array_rule st)) s.now }
 {
-    let scans = st.n_scans_left.0;
-    if scans == 0 {
-        return Next::Stopped(Stopped::Finished);
+    if st.n_scans_left.0 == 0 {
+        return Err(Stopped::Finished);
     }
-    let record_type = st.record_type;
-    match record_type {
+    match st.record_type {
         ChemstationArrayRecordType::Float32Array => {
             if s.len() < 4 {
-                return Next::Stopped(cut(last));
+                return Err(lacking(last, false));
             }
-            array_given(st, f64_from_f32_bits(le_u32(s, 0)), 4)
+            array_given(st, f64::from_pattern(u32::le_at(s, 0)), 4)
         }
         ChemstationArrayRecordType::Float64Array => {
             if s.len() < 8 {
-                return Next::Stopped(cut(last));
+                return Err(lacking(last, false));
             }
-            array_given(st, f64_from_bits(le_u64(s, 0)), 8)
+            array_given(st, f64::from_pattern(u64::le_at(s, 0)), 8)
         }
     }
 }

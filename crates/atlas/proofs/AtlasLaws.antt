@@ -8,9 +8,7 @@ use Rattle.rules.proofs.Laws.{read_map}
 use Rattle.streams.specs.Told.{Told}
 use Rattle.streams.specs.Next.{sum_of, stepped, rule_by}
 use Rattle.streams.specs.declared.State.{State}
-use Rattle.atlas.specs.Atlas.{atlas_after, atlas_told, atlas_item, after_by}
-use Rattle.atlas.specs.declared.Debit.{Debit}
-use Rattle.atlas.specs.declared.Debit.TheVariants.{Plain, Atlas}
+use Rattle.atlas.specs.Atlas.{atlas_told, atlas_item}
 
 -- a rule of fields under the atlas reading: the plain reading's records, with the states behind them changed
 pub atlas_reads : (k : ℕ) (st plain : State) (fields : Rule Told) (last : Bool) (s : List ℕ) → sum_of plain ≡ sum_of st →
@@ -23,8 +21,3 @@ atlas_reads k st plain fields last s e =
     go : (x : Read Told) → map_read (atlas_item k) (map_read (stepped (sum_of st)) x) ≡ map_read (stepped (sum_of st)) (map_read (atlas_told k) x)
     go (got t n) = refl
     go (stops z) = refl
-
--- a state that no reading changes
-pub kept : (debit : Debit) (st y : State) → st ≡ y → ((k : ℕ) → atlas_after k y ≡ y) → st ≡ after_by debit st
-kept Plain st y e h = refl
-kept (Atlas before) st y e h = e ∙ sym (h before.0) ∙ sym (ap (atlas_after before.0) e)

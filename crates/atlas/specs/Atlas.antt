@@ -1,5 +1,5 @@
 -- The atlas reading of DAD and UV (request 5; FORMAT 5.7): the fields of a record are those of the plain reading; what differs is when a scan is spent, and when DAD ends.
-use Rattle.std.specs.Prelude.{Bool, cond, ◌&&◌, ℕ, ◌-◌, eqb}
+use Rattle.std.specs.Prelude.{Bool, cond, ◌&&◌, ℕ, ◌-◌, eqb, Option, Some, None}
 use Rattle.rules.specs.Rule.{Rule, map_rule}
 use Rattle.rules.specs.Calls.{Item}
 use Rattle.streams.specs.Told.{Told}
@@ -9,8 +9,6 @@ use Rattle.streams.specs.declared.Scans.{Scans}
 use Rattle.streams.specs.declared.State.{State}
 use Rattle.streams.specs.declared.State.TheVariants.{Fid, Ms, Mwd, Dad, Uv, Array, AtlasDad, AtlasUv}
 use Rattle.streams.specs.declared.Record.{Record}
-use Rattle.atlas.specs.declared.Debit.{Debit}
-use Rattle.atlas.specs.declared.Debit.TheVariants.{Plain, Atlas}
 use Rattle.dad.specs.Dad.{dad_rule}
 use Rattle.uv.specs.Uv.{uv_rule}
 
@@ -88,15 +86,15 @@ atlas_uv_rule st = map_rule (atlas_told st.n_scans_left.0) (uv_rule st)
 -- ---- what the code asks for: a state's reading, and the plain state at its place
 
 -- the scans due before a point, of an atlas state
-abbrev pub debit_of : State → Debit
-debit_of (AtlasDad st) = Atlas st.n_scans_left
-debit_of (AtlasUv st) = Atlas st.n_scans_left
-debit_of (Fid st) = Plain
-debit_of (Ms st) = Plain
-debit_of (Mwd st) = Plain
-debit_of (Dad st) = Plain
-debit_of (Uv st) = Plain
-debit_of (Array st) = Plain
+abbrev pub debit_of : State → Option Scans
+debit_of (AtlasDad st) = Some st.n_scans_left
+debit_of (AtlasUv st) = Some st.n_scans_left
+debit_of (Fid st) = None
+debit_of (Ms st) = None
+debit_of (Mwd st) = None
+debit_of (Dad st) = None
+debit_of (Uv st) = None
+debit_of (Array st) = None
 
 -- the state that the plain rule is asked with
 abbrev pub plain_of : State → State
@@ -110,14 +108,14 @@ plain_of (Uv st) = Uv st
 plain_of (Array st) = Array st
 
 -- the scans due after a point, by those that the plain rule leaves and by what is then due
-abbrev pub scans_by : Debit → Scans → ℕ → Scans
-scans_by Plain scans due = scans
-scans_by (Atlas before) scans due = record { 0 = spent before.0 due }
+abbrev pub scans_by : Option Scans → Scans → ℕ → Scans
+scans_by None scans due = scans
+scans_by (Some before) scans due = record { 0 = spent before.0 due }
 
 -- a state after a point of the plain rule, and a record with it, as the reading has them
-abbrev pub after_by : Debit → State → State
-after_by Plain st = st
-after_by (Atlas before) st = atlas_after before.0 st
+abbrev pub after_by : Option Scans → State → State
+after_by None st = st
+after_by (Some before) st = atlas_after before.0 st
 
-abbrev pub item_by : Debit → Item State Record → Item State Record
+abbrev pub item_by : Option Scans → Item State Record → Item State Record
 item_by debit x = record { shows = x.shows; after = after_by debit x.after }

@@ -1,6 +1,7 @@
 // Writes the log of a run, opened by the atlas reading: a kind digit and the file from standard input, the log to standard output.
 #![tactic(auto)]
 
+// Kept: (a) two programs, each with a main of its own: they differ in the reading alone, and share the rest.
 fn main(rt: HostRuntime) {
     let mut buf = [0u8; 32768];
     let mut out = [0u8; 32768];

@@ -1,18 +1,18 @@
 -- What the two forms that borrow say, by what a rule reads (document 01, 'Forms the Rust has and we cannot', 'Matching forms to places').
-use Rattle.std.specs.Prelude.{Bool, List, ℕ, ◌+◌, drop}
+use Rattle.std.specs.Prelude.{Bool, List, ℕ, ◌+◌, drop, Result, Ok, Err}
 use Rattle.rules.specs.Rule.{Read, got, stops, read, map_read}
 use Rattle.rules.specs.Calls.{one_record}
 use Rattle.error.specs.Number.{stop_of}
+use Rattle.error.specs.declared.Stopped.{Stopped}
 use Rattle.chemstation.specs.Next.{rule}
 use Rattle.streams.specs.declared.State.{State}
 use Rattle.streams.specs.declared.Record.{Record}
-use Rattle.borrowed.specs.declared.Given.{Given}
-use Rattle.borrowed.specs.declared.Given.TheVariants as given
+use Rattle.borrowed.specs.declared.Shown.{Shown}
 use Rattle.borrowed.specs.declared.Reader.{Reader}
 
-abbrev pub given_of : Given → Read Record
-given_of (given.Record r n) = got r n
-given_of (given.Stopped z) = stops (stop_of z)
+abbrev pub shown_of : Result Shown Stopped → Read Record
+shown_of (Ok r) = got r.«record» r.bytes
+shown_of (Err z) = stops (stop_of z)
 
 -- Next record without its state: the record and its byte count, or why there is none
 abbrev pub shown_by : State → Bool → List ℕ → Read Record

@@ -1,7 +1,7 @@
 -- The next day is one more.
 use mathlib.Core.Path.{◌≡◌, refl}
 use mathlib.Core.Bool.{true, false}
-use Prim.Native.Nat.{ℕ, suc, ◌+◌, ◌-◌, ◌≤◌}
+use Prim.Native.Nat.{ℕ, suc, ◌+◌, ◌-◌, ◌≤◌, ◌<◌}
 use native.Mathlib.Numerals.{add-one}
 use native.Mathlib.Omega.{arith}
 use lib.Dec.{leb, ltb}
@@ -63,14 +63,15 @@ onward x l v =
     rw (f, g) (next_year y m d l q p e, first_day (y + 1) 1 (omega arith) (omega arith))))
 
 -- the latest day, and the latest instant of a day
+pub latest_day : (x : Moment) → InRange x → day_number x.year x.month x.day ≤ 36524
+unfolding day_number
+latest_day x r =
+    let k : x.year - 1969 < 100 = omega (arith, r.year.0, r.year.1) in
+    omega (arith, k, (day_within x.year x.month x.day r.day).1, years_sum (x.year - 1969) k, most_before x.year x.month r.month)
+
 latest : (x : Moment) → InRange x → instant_of x ≤ 3155759999
-unfolding instant_of day_number
-latest x r =
-    let y = x.year in
-    let m = x.month in
-    let k = y - 1969 in
-    let d = day_within y m x.day r.month r.day in
-    omega (arith, r.year.0, r.year.1, r.hour, r.minute, r.second, d.0, d.1, years_sum k (omega (arith, r.year.0, r.year.1)), most_before y m r.month)
+unfolding instant_of
+latest x r = omega (arith, latest_day x r, r.hour, r.minute, r.second)
 
 pub calendar : CalendarDays
 unfolding day_number is_day days_in before_month of_years leap

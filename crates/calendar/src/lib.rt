@@ -2,10 +2,10 @@
 #![tactic(auto)]
 
 ghost use Rattle.std.specs.Prelude.{◌≡◌, ◌≤◌, ◌<◌};
-ghost use Rattle.calendar.specs.Calendar.{leap, days_in, before_month, of_years, day_number, is_day, instant_of, Printed, InRange, CalendarDays};
+ghost use Rattle.calendar.specs.Calendar.{leap, days_in, before_month, of_years, day_number, is_day, instant_of, InRange, CalendarDays};
 
 // A day and a time of that day.
-#[derive(Clone, Copy)]
+#[derive(Clone, Copy, Debug, PartialEq, Eq)]
 pub struct Moment {
     pub year: u16,
     pub month: u8,
@@ -15,63 +15,42 @@ pub struct Moment {
     pub second: u8,
 }
 
-// By month, from 0, which is none: the days of the month, and those of the year before it, in a common year.
+// By month, from 0, which is none: the days of the month in a common year.
 const DAYS: [u8; 13] = [0, 31, 28, 31, 30, 31, 30, 31, 31, 30, 31, 30, 31];
 
-const DAYS_BEFORE: [u16; 13] = [0, 0, 31, 59, 90, 120, 151, 181, 212, 243, 273, 304, 334];
-
-// From 1969 to 2068 every fourth year is a leap year, 2000 too.
+#[tactic(auto, unfolding(crate::specs::Calendar::leap))]
 fn is_leap(year: u16) -> bool
-    requires { Printed year }
     ensures { result ≡ leap year }
 {
-    year % 4 == 0
+    year % 4 == 0 && (year % 100 != 0 || year % 400 == 0)
 }
 
+// The days of a month; behind the twelfth there is none.
+#[tactic(auto, using(crate::proofs::Days::month_days), unfolding(crate::specs::Calendar::days_in))]
 fn days_in(year: u16, month: u8) -> u8
-    requires { Printed year × (month ≤ 12) }
-    ensures { result ≡ days_in year month }
+    ensures days { result ≡ days_in year month }
+    ensures few { result ≤ 31 }
 {
-    let m = month as usize;
-    let days = DAYS[m];
-    if month != 2 {
-        return days;
-    }
-    if is_leap(year) {
+    if month == 2 && is_leap(year) {
         return 29;
     }
-    days
-}
-
-// Whether a month has such a day.
-pub fn is_day(year: u16, month: u8, day: u8) -> bool
-    requires { Printed year × (month ≤ 12) }
-    ensures { result ≡ is_day year month day }
-{
-    if day < 1 {
-        return false;
-    }
-    day <= days_in(year, month)
+    DAYS.get(usize::from(month)).copied().unwrap_or(0)
 }
 
 // The days of a year before a month.
+#[tactic(auto, unfolding(crate::specs::Calendar::before_month))]
 fn before_month(year: u16, month: u8) -> u16
-    requires { Printed year × (month ≤ 12) }
-    ensures days { result ≡ before_month year month }
-    ensures few { result ≤ 335 }
+    ensures { result ≡ before_month year month }
 {
-    let m = month as usize;
-    let days = DAYS_BEFORE[m];
-    if month <= 2 {
-        return days;
-    }
-    if is_leap(year) {
-        return days + 1;
+    let mut days = 0;
+    for earlier in 0..month {
+        days += u16::from(days_in(year, earlier));
     }
     days
 }
 
 // The days of so many years from 1969 on; every fourth year, 1972 first, has one more.
+#[tactic(auto, using(crate::proofs::Days::years_sum))]
 fn of_years(years: u32) -> u32
     requires { years < 100 }
     ensures days { result ≡ of_years years }
@@ -80,31 +59,39 @@ fn of_years(years: u32) -> u32
     years * 365 + years / 4
 }
 
-// How many days after 1 January 1969 a day is.
-fn day_number(year: u16, month: u8, day: u8) -> u32
-    requires { Printed year × (month ≤ 12) × (1 ≤ day) × (day ≤ 31) }
-    ensures days { result ≡ day_number year month day }
-    ensures few { result ≤ 36524 }
-{
-    let years = (year - 1969) as u32;
-    let before = before_month(year, month) as u32;
-    let days = (day - 1) as u32;
-    of_years(years) + before + days
-}
+impl Moment {
+    // Whether its month has such a day.
+    #[tactic(auto, unfolding(crate::specs::Calendar::is_day))]
+    pub fn is_day(self) -> bool
+        ensures { result ≡ is_day self.year self.month self.day }
+    {
+        (1..=days_in(self.year, self.month)).contains(&self.day)
+    }
 
-// The instant of a moment. The last one, 3,155,759,999, is above 2^31.
-pub fn instant(x: Moment) -> u32
-    requires { InRange x }
-    ensures { result ≡ instant_of x }
-{
-    let day = day_number(x.year, x.month, x.day);
-    let hour = x.hour as u32;
-    let minute = x.minute as u32;
-    let second = x.second as u32;
-    ((day * 24 + hour) * 60 + minute) * 60 + second
+    // How many days after 1 January 1969 its day is.
+    #[tactic(auto, using(crate::proofs::Days::day_within), unfolding(crate::specs::Calendar::day_number))]
+    fn day_number(self) -> u32
+        requires { InRange self }
+        ensures { result ≡ day_number self.year self.month self.day }
+    {
+        of_years(u32::from(self.year - 1969))
+            + u32::from(before_month(self.year, self.month))
+            + u32::from(self.day - 1)
+    }
+
+    // The instant. The last one, 3,155,759,999, is above 2^31.
+    #[tactic(auto, using(crate::proofs::Onward::latest_day), unfolding(crate::specs::Calendar::instant_of))]
+    pub fn instant(self) -> u32
+        requires { InRange self }
+        ensures { result ≡ instant_of self }
+    {
+        let hours = self.day_number() * 24 + u32::from(self.hour);
+        (hours * 60 + u32::from(self.minute)) * 60 + u32::from(self.second)
+    }
 }
 
 // The calendar, in a contract so that it cannot be left out.
+#[tactic(auto, using(crate::proofs::Onward::calendar))]
 pub fn calendar_days()
     ensures { CalendarDays }
 {}

@@ -12,14 +12,16 @@ use Rattle.rules.specs.Calls.{Answer, full, stopped, Reading, Call, asks, asked,
 use Rattle.streams.specs.declared.State.{State}
 use Rattle.streams.specs.declared.Record.{Record}
 use Rattle.chemstation.specs.Next.{rule}
-use Rattle.reader.specs.Columns.{Columns, Even, columns_with, closing_of}
+use Rattle.reader.specs.Columns.{Held, Even, Room, columns_with, closing_of}
 use Rattle.reader.specs.declared.Filled.{Filled}
-use Rattle.reader.specs.declared.Closing.{Closing}
 use Rattle.reader.proofs.ColumnLaws.{even_filled}
-use Rattle.calls.specs.MakeCalls.{call_of, calls_of, Room, or_else, columns_from, Gives, ComesTo}
-use Rattle.calls.specs.declared.AllCalls.TheVariants.{Rows}
+use Rattle.calls.specs.MakeCalls.{call_of, calls_of, or_else, columns_from, Gives, ComesTo}
+use Rattle.calls.specs.declared.Call.{Call as Made}
+use Rattle.calls.specs.declared.Call.TheVariants.{Next}
+use Rattle.std.specs.Prelude.{Result}
+use Rattle.error.specs.declared.Stopped.{Stopped}
 use Rattle.calls.proofs.Calling.{calls_at, calls_end, at_most, closing_is}
-use Rattle.calls.proofs.Rows.{columns_behind}
+use Rattle.calls.proofs.RowLaws.{columns_behind}
 
 -- ---- Z
 
@@ -36,16 +38,16 @@ or_full (stopped z) = refl
 
 -- ---- the loop
 
-module _ (calls : List ℕ) (st : State) (s : List ℕ) (old : Columns) (even_old : Even (length old.time) old) where
+module _ (calls : List Made) (st : State) (s : List ℕ) (old : Held) where
   -- the calls from place j on, and the one there
   abbrev left : ℕ → List Call
   left j = calls_of (drop j calls)
 
   abbrev here : ℕ → Call
-  here j = call_of (get_or calls j 0)
+  here j = call_of (get_or calls j Next)
 
   -- j calls are made: what is in the columns, the state, the bytes consumed, the count of rows, Z so far
-  pub record Going (new : Columns) (cur : State) (at i : ℕ) (z : Answer) (j : ℕ) : Type 0 where
+  pub record Going (new : Held) (cur : State) (at i : ℕ) (z : Answer) (j : ℕ) : Type 0 where
     pub given : List Record
     pub count : length given ≡ i
     pub inside : at ≤ length s
@@ -54,12 +56,13 @@ module _ (calls : List ℕ) (st : State) (s : List ℕ) (old : Columns) (even_ol
     pub closing : first_fewer rule (calls_of calls) st s ≡ or_else z (first_fewer rule (left j) cur (drop at s))
     pub holds : new ≡ columns_with given old
     pub even : Even (length old.time) new
+    pub even_old : Even (length old.time) old
 
-  pub going_start : asked (calls_of calls) ≤ length old.time → Going old st 0 0 full 0
-  going_start h = record { given = []; count = refl; inside = omega arith; room = omega arith; records = refl; closing = refl; holds = refl; even = even_old }
+  pub going_start : Even (length old.time) old → asked (calls_of calls) ≤ length old.time → Going old st 0 0 full 0
+  going_start e h = record { given = []; count = refl; inside = omega arith; room = omega arith; records = refl; closing = refl; holds = refl; even = e; even_old = e }
 
-  module _ (new : Columns) (cur : State) (at i : ℕ) (z : Answer) (j : ℕ) (g : Going new cur at i z j) where
-    pub going_ends : length calls ≤ j → (n : ℕ) (y : Closing) → closing_of y ≡ z → ComesTo (called rule (calls_of calls) st s) n (Rows n i y) (record { entry = old; exit = new })
+  module _ (new : Held) (cur : State) (at i : ℕ) (z : Answer) (j : ℕ) (g : Going new cur at i z j) where
+    pub going_ends : length calls ≤ j → (n : ℕ) (y : Result (Unit {0}) Stopped) → closing_of y ≡ z → ComesTo (called rule (calls_of calls) st s) n (record { asked = n; count = i; closing = y }) (record { entry = old; exit = new })
     unfolding all_records first_fewer called
     going_ends h n y closes =
         let none = calls_end calls j h in
@@ -73,12 +76,12 @@ module _ (calls : List ℕ) (st : State) (s : List ℕ) (old : Columns) (even_ol
     module _ (more : j < length calls) where
       pub going_room : Room (i + asks (here j)) new
       unfolding asked
-      going_room = (subst (λ n. Even n new) (sym g.even.time) g.even, omega (arith, g.room, g.even.time, ap asked (calls_at calls j more)))
+      going_room = (subst (λ n. Even n new) (sym g.even.time) g.even, omega (arith, g.room, g.even.time, ap asked (calls_at calls j Next more)))
 
       abbrev x : Reading State Record
       x = call rule (here j) cur (drop at s)
 
-      module _ (f : Filled) (new' : Columns) (filled : Gives (here j) cur (take (length s - at) (drop at s)) i f (record { entry = new; exit = new' })) where
+      module _ (f : Filled) (new' : Held) (filled : Gives (here j) cur (take (length s - at) (drop at s)) i f (record { entry = new; exit = new' })) where
         b : Gives (here j) cur (drop at s) i f (record { entry = new; exit = new' })
         b = rw (take_all (length s - at) (drop at s) (omega (arith, length-drop at s))) at filled
 
@@ -91,7 +94,7 @@ module _ (calls : List ℕ) (st : State) (s : List ℕ) (old : Columns) (even_ol
         pub going_more : (z' : Answer) → z' ≡ or_else z (cond (ltb f.count (asks (here j))) (closing_of f.closing) full) → Going new' f.state (at + f.consumed) (i + f.count) z' (j + 1)
         unfolding asked all_records first_fewer
         going_more z' closes =
-            let cons = calls_at calls j more in
+            let cons = calls_at calls j Next more in
             let bound = at_most (here j) cur (drop at s) in
             let given = g.given ++ x.records in
             let count : length given ≡ i + f.count = length-append g.given x.records ∙ rw (g.count, b.count) refl in
@@ -107,5 +110,6 @@ module _ (calls : List ℕ) (st : State) (s : List ℕ) (old : Columns) (even_ol
                   (or_else_lem z x.closing (first_fewer rule (left (j + 1)) x.state (drop x.consumed (drop at s))) (ltb (length x.records) (asks (here j)))
                   (λ t q. omega (arith, ltb-true (length x.records) (asks (here j)) t, bound.closing q)));
               holds = holds;
-              even = subst (Even (length old.time)) (sym holds) (even_filled (length old.time) given old (omega (arith, count, going_rows)) even_old);
+              even = subst (Even (length old.time)) (sym holds) (even_filled (length old.time) given old (omega (arith, count, going_rows)) g.even_old);
+              even_old = g.even_old;
             }

@@ -16,17 +16,13 @@ use Rattle.streams.specs.declared.State.{State}
 use Rattle.streams.specs.declared.Record.{Record}
 use Rattle.chemstation.specs.Next.{rule}
 use Rattle.calls.specs.MakeCalls.{call_of, calls_of}
-
-pub fill_of_lem : (m : ℕ) → ¬ (m ≡ 0) → ¬ (m ≡ 1) → call_of m ≡ fill (m - 2)
-fill_of_lem zero h k = absurd (h refl)
-fill_of_lem (suc zero) h k = absurd (k refl)
-fill_of_lem (suc (suc n)) h k = let e : suc (suc n) - 2 ≡ n = omega arith in rw e refl
+use Rattle.calls.specs.declared.Call.{Call as Made}
 
 -- the calls from place j on
-pub calls_at : (l : List ℕ) (j : ℕ) → j < length l → calls_of (drop j l) ≡ call_of (get_or l j 0) ∷ calls_of (drop (j + 1) l)
-calls_at l j h = rw (add-one, drop-cons l j 0) refl
+pub calls_at : (l : List Made) (j : ℕ) (other : Made) → j < length l → calls_of (drop j l) ≡ call_of (get_or l j other) ∷ calls_of (drop (j + 1) l)
+calls_at l j other h = rw (add-one, drop-cons l j other) refl
 
-pub calls_end : (l : List ℕ) (j : ℕ) → length l ≤ j → calls_of (drop j l) ≡ []
+pub calls_end : (l : List Made) (j : ℕ) → length l ≤ j → calls_of (drop j l) ≡ []
 calls_end l j h = rw (drop_of_length-le l h) refl
 
 -- a call that asks for n records gives at most n, of the bytes at hand, and is full only with n

@@ -1,4 +1,4 @@
 mod Calling
-mod Rows
+mod RowLaws
 mod CallLoop
 mod Opened

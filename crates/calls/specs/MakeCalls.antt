@@ -1,28 +1,28 @@
--- The calls of demand 3, made by the code: which call a number asks for, and what all of them answer.
-use Rattle.std.specs.Prelude.{◌≡◌, cond, List, ◌++◌, map, ℕ, zero, suc, ◌≤◌, leb, length, take, drop}
+-- The calls of demand 3, made by the code: which call is made, and what all of them answer.
+use Rattle.std.specs.Prelude.{◌≡◌, cond, List, ◌++◌, map, ℕ, ◌≤◌, leb, length, take, drop, Option, Some, None, Result, Ok, Err}
 use denote.Triple.Both.{Both}
-use Rattle.rules.specs.Calls.{Answer, Reading, Result, full, stopped, Call, next, fill, fill_unequal, asks, asked, call, by_calls}
+use Rattle.rules.specs.Calls.{Answer, Reading, Result as Called, full, stopped, Call, next, fill, fill_unequal, asks, asked, call, by_calls}
 use Rattle.common.specs.Bytes.{AreBytes}
 use Rattle.streams.specs.declared.State.{State}
 use Rattle.streams.specs.declared.Record.{Record}
 use Rattle.chemstation.specs.Next.{rule}
 use Rattle.streams.specs.declared.Mode.{Mode}
 use Rattle.modes.specs.Modes.{start_by}
-use Rattle.reader.specs.Columns.{Columns, equal_lengths, Even, filled_with, columns_with, closing_of}
+use Rattle.reader.specs.Columns.{Held, equal_lengths, filled_with, columns_with, closing_of}
 use Rattle.reader.specs.declared.Filled.{Filled}
 use Rattle.demand3.specs.Demand3.{Demand3}
-use Rattle.calls.specs.declared.AllCalls.{AllCalls}
-use Rattle.calls.specs.declared.AllCalls.TheVariants.{Rows, Unequal, Short}
-use Rattle.calls.specs.declared.Asked.{Asked}
-use Rattle.calls.specs.declared.Asked.TheVariants.{Records, Above}
+use Rattle.calls.specs.declared.Call.{Call as Made}
+use Rattle.calls.specs.declared.Call.TheVariants as made
+use Rattle.calls.specs.declared.Rows.{Rows}
+use Rattle.calls.specs.declared.NoRoom.{NoRoom}
+use Rattle.calls.specs.declared.NoRoom.TheVariants.{Unequal, Short}
 
--- a call by its number: 0 Next record, 1 Fill columns whose lengths differ, n + 2 Fill columns of length n. Every number is a call
-abbrev pub call_of : ℕ → Call
-call_of zero = next
-call_of (suc zero) = fill_unequal
-call_of (suc (suc n)) = fill n
+abbrev pub call_of : Made → Call
+call_of made.Next = next
+call_of made.FillUnequal = fill_unequal
+call_of (made.Fill n) = fill n
 
-abbrev pub calls_of : List ℕ → List Call
+abbrev pub calls_of : List Made → List Call
 calls_of l = map call_of l
 
 -- ---- what the calls answer
@@ -33,17 +33,17 @@ pub data Outcome : Type 0 where
   unequal : Outcome  -- the lengths of the lent columns differ
   short : Outcome  -- they are below N
 
-abbrev pub outcome_of : AllCalls → Outcome
-outcome_of (Rows n i z) = rows n i (closing_of z)
-outcome_of Unequal = unequal
-outcome_of Short = short
+abbrev pub outcome_of : Result Rows NoRoom → Outcome
+outcome_of (Ok r) = rows r.asked r.count (closing_of r.closing)
+outcome_of (Err Unequal) = unequal
+outcome_of (Err Short) = short
 
 -- one of three, by the lent columns: their lengths differ, they are shorter than N, or they have room for N rows
-abbrev pub by_room : {A : Type 0} → List Call → Columns → A → A → A → A
+abbrev pub by_room : {A : Type 0} → List Call → Held → A → A → A → A
 by_room cs old differ below fit = cond (equal_lengths old) (cond (leb (asked cs) (length old.time)) fit below) differ
 
 -- the answer r and the lent columns c, by the calls cs on F, all told that their bytes are not the last
-pub record Makes (mode : Mode) (kind : ℕ) (cs : List Call) (F : List ℕ) (r : AllCalls) (c : Both Columns Columns) : Type 0 where
+pub record Makes (mode : Mode) (kind : ℕ) (cs : List Call) (F : List ℕ) (r : Result Rows NoRoom) (c : Both Held Held) : Type 0 where
   -- N, the count of R's records, and Z
   pub answer :
       let x = by_calls rule (start_by mode kind) cs F in
@@ -57,13 +57,9 @@ pub record Makes (mode : Mode) (kind : ℕ) (cs : List Call) (F : List ℕ) (r :
 
 -- ---- what the other functions of the crate promise
 
--- columns of one length, with room for n rows
-abbrev pub Room : ℕ → Columns → Type 0
-Room n c = Even (length c.time) c × (n ≤ length c.time)
-
 -- N, if there is room for so many rows
-abbrev pub asked_in : ℕ → ℕ → Asked
-asked_in room n = cond (leb n room) (Records n) Above
+abbrev pub asked_in : ℕ → ℕ → Option ℕ
+asked_in room n = cond (leb n room) (Some n) None
 
 -- Z so far: the answer of the first call that gave fewer than it asked for, and full where none did
 abbrev pub or_else : Answer → Answer → Answer
@@ -71,7 +67,7 @@ or_else full later = later
 or_else (stopped z) later = stopped z
 
 -- the rows of records from row i on, and those before as they were
-abbrev pub columns_from : ℕ → List Record → Columns → Columns
+abbrev pub columns_from : ℕ → List Record → Held → Held
 columns_from i rs old = record {
   time = take i old.time ++ filled_with (λ r. r.time) rs (drop i old.time);
   axis = take i old.axis ++ filled_with (λ r. r.axis) rs (drop i old.axis);
@@ -82,7 +78,7 @@ columns_from i rs old = record {
 }
 
 -- the answer r and the columns before and after, by what is read: as Fill columns, from row i on
-pub record FilledFrom (i : ℕ) (x : Reading State Record) (r : Filled) (c : Both Columns Columns) : Type 0 where
+pub record FilledFrom (i : ℕ) (x : Reading State Record) (r : Filled) (c : Both Held Held) : Type 0 where
   pub count : r.count ≡ length x.records
   pub consumed : r.consumed ≡ x.consumed
   pub state : r.state ≡ x.state
@@ -90,10 +86,10 @@ pub record FilledFrom (i : ℕ) (x : Reading State Record) (r : Filled) (c : Bot
   pub columns : c.exit ≡ columns_from i x.records c.entry
 
 -- a call's answer r, and its rows in the columns c from row i on
-abbrev pub Gives : Call → State → List ℕ → ℕ → Filled → Both Columns Columns → Type 0
+abbrev pub Gives : Call → State → List ℕ → ℕ → Filled → Both Held Held → Type 0
 Gives a st bs i r c = FilledFrom i (call rule a st bs) r c
 
 -- N, R and Z: the answer r, and R's rows in the columns c
-pub record ComesTo (x : Result Record) (n : ℕ) (r : AllCalls) (c : Both Columns Columns) : Type 0 where
-  pub answer : outcome_of r ≡ rows n (length x.records) x.closing
+pub record ComesTo (x : Called Record) (n : ℕ) (r : Rows) (c : Both Held Held) : Type 0 where
+  pub answer : outcome_of (Ok r) ≡ rows n (length x.records) x.closing
   pub columns : c.exit ≡ columns_with x.records c.entry

@@ -5,98 +5,88 @@
 ghost use Rattle.std.specs.Prelude.{◌≡◌, cond, ◌+◌, ltb};
 ghost use Rattle.rules.specs.Calls.{full, next, fill_unequal, asks, asked, called};
 ghost use Rattle.chemstation.specs.Next.{rule};
-ghost use Rattle.reader.specs.Columns.{Columns, columns, lent_columns, closing_of};
-ghost use Rattle.calls.specs.MakeCalls.{call_of, calls_of, Makes, Room, asked_in, or_else, Gives, ComesTo};
+ghost use Rattle.reader.specs.Columns.{Held, held, lent, Room, AreTheSame, closing_of};
+ghost use Rattle.calls.specs.MakeCalls.{call_of, calls_of, Makes, asked_in, or_else, Gives, ComesTo};
 
-use opening::Opening;
-use reader::{Closing, Filled};
-use streams::{Mode, Next, State};
+use error::Stopped;
+use reader::{Columns, Filled};
+use streams::{Mode, State};
 
-// What the calls answer.
+#[derive(Clone, Copy, Debug, PartialEq, Eq)]
+pub enum Call {
+    // Next record by value
+    Next,
+    // Fill columns, with columns whose lengths differ
+    FillUnequal,
+    // Fill columns, with columns of so many rows
+    Fill(usize),
+}
+
+// What the calls answer: N, the count of rows and Z.
 #[derive(Clone, Copy)]
-pub enum AllCalls {
-    // N, the count of rows and Z
-    Rows {
-        asked: usize,
-        count: usize,
-        closing: Closing,
-    },
-    // no call was made: the lengths of the lent columns differ
+pub struct Rows {
+    pub asked: usize,
+    pub count: usize,
+    pub closing: Result<(), Stopped>,
+}
+
+// Why no call is made.
+#[derive(Clone, Copy, Debug, PartialEq, Eq)]
+pub enum NoRoom {
+    // the lengths of the lent columns differ
     Unequal,
-    // no call was made: the lent columns are shorter than N
+    // the lent columns are shorter than N
     Short,
 }
 
-// How many records a call asks for.
-fn asked_by(call: usize) -> usize
-    ensures { result ≡ asks (call_of call) }
-{
-    match call {
-        0 => 1,
-        1 => 0,
-        _ => call - 2,
+impl Call {
+    // How many records it asks for.
+    fn asks(self) -> usize
+        ensures { result ≡ asks (call_of self) }
+    {
+        match self {
+            Call::Next => 1,
+            Call::FillUnequal => 0,
+            Call::Fill(n) => n,
+        }
     }
 }
 
-// How many records the calls ask for: N, which may be larger than any number here.
-#[derive(Clone, Copy)]
-enum Asked {
-    Records(usize),
-    Above,
-}
-
-// N, if it is at most so many.
-fn asked_by_all(calls: &[usize], most: usize) -> Asked
+// How many records the calls ask for, N, which may be larger than any number here; if it is at most so many.
+fn asked_by_all(calls: &[Call], most: usize) -> Option<usize>
     ensures { result ≡ asked_in most (asked (calls_of calls.now)) }
 {
     let mut n: usize = 0;
-    let mut j: usize = 0;
-    while j < calls.len() {
-        let k = asked_by(calls[j]);
+    for call in calls {
+        let k = call.asks();
         if most - n < k {
-            return Asked::Above;
+            return None;
         }
         n += k;
-        j += 1;
     }
-    Asked::Records(n)
+    Some(n)
 }
 
 // Next record by value as a call: its record becomes row i.
-fn next_row(
-    st: State,
-    s: &[u8],
-    i: usize,
-    time: &mut [f64],
-    axis: &mut [f64],
-    unscaled: &mut [f64],
-    scaled: &mut [f64],
-    minutes: &mut [u32],
-    leftover: &mut [u32],
-) -> Filled
-    requires { Room (i + 1) (columns time.old axis.old unscaled.old scaled.old minutes.old leftover.old) }
-    ensures { Gives next st s.now i result (lent_columns time axis unscaled scaled minutes leftover) }
+fn next_row(st: State, s: &[u8], i: usize, columns: &mut Columns<'_>) -> Filled
+    requires { Room (i + 1) (held columns.old) }
+    ensures same { AreTheSame columns.old columns.new }
+    ensures gives { Gives next st s.now i result (lent columns) }
 {
     match chemstation::next_record(st, s, false) {
-        Next::Stopped(z) => Filled {
+        Err(z) => Filled {
             count: 0,
             consumed: 0,
             state: st,
-            closing: Closing::Stopped(z),
+            closing: Err(z),
         },
-        Next::Given(r, after, k) => {
-            let row = reader::row_of(r);
-            time[i] = row.time;
-            axis[i] = row.axis;
-            unscaled[i] = row.unscaled;
-            scaled[i] = row.scaled;
-            minutes[i] = row.minutes;
-            leftover[i] = row.leftover;
+        Ok(given) => {
+            columns.put(i, given.record.into());
             Filled {
                 count: 1,
-                consumed: k,
-                state: after,
-                closing: Closing::Full,
+                consumed: given.bytes,
+                state: given.state,
+                closing: Ok(()),
             }
         }
     }
@@ -104,7 +94,7 @@ fn next_row(
 
 // Fill columns with columns whose lengths differ.
 fn fill_unequal(st: State, s: &[u8]) -> Filled
-    ensures { (old : Columns) → Gives fill_unequal st s.now 0 result (record { entry = old; exit = old }) }
+    ensures { (old : Held) → Gives fill_unequal st s.now 0 result (record { entry = old; exit = old }) }
 {
     let mut time = [0.0; 2];
     let mut axis = [0.0; 1];
@@ -116,111 +106,71 @@ fn fill_unequal(st: State, s: &[u8]) -> Filled
         st,
         s,
         false,
-        &mut time,
-        &mut axis,
-        &mut unscaled,
-        &mut scaled,
-        &mut minutes,
-        &mut leftover,
+        &mut Columns {
+            time: &mut time,
+            axis: &mut axis,
+            unscaled: &mut unscaled,
+            scaled: &mut scaled,
+            minutes: &mut minutes,
+            leftover: &mut leftover,
+        },
     )
 }
 
 // One call, whose rows go into the columns from row i on.
-fn one_call(
-    call: usize,
-    st: State,
-    s: &[u8],
-    i: usize,
-    time: &mut [f64],
-    axis: &mut [f64],
-    unscaled: &mut [f64],
-    scaled: &mut [f64],
-    minutes: &mut [u32],
-    leftover: &mut [u32],
-) -> Filled
-    requires { Room (i + asks (call_of call)) (columns time.old axis.old unscaled.old scaled.old minutes.old leftover.old) }
-    ensures { Gives (call_of call) st s.now i result (lent_columns time axis unscaled scaled minutes leftover) }
+fn one_call(call: Call, st: State, s: &[u8], i: usize, columns: &mut Columns<'_>) -> Filled
+    requires { Room (i + asks (call_of call)) (held columns.old) }
+    ensures same { AreTheSame columns.old columns.new }
+    ensures gives { Gives (call_of call) st s.now i result (lent columns) }
 {
     match call {
-        0 => next_row(st, s, i, time, axis, unscaled, scaled, minutes, leftover),
-        1 => fill_unequal(st, s),
-        _ => {
-            let end = i + asked_by(call);
-            reader::fill_columns(
-                st,
-                s,
-                false,
-                &mut time[i..end],
-                &mut axis[i..end],
-                &mut unscaled[i..end],
-                &mut scaled[i..end],
-                &mut minutes[i..end],
-                &mut leftover[i..end],
-            )
-        }
+        Call::Next => next_row(st, s, i, columns),
+        Call::FillUnequal => fill_unequal(st, s),
+        Call::Fill(n) => reader::fill_slices(
+            st,
+            s,
+            false,
+            &mut columns.time[i..i + n],
+            &mut columns.axis[i..i + n],
+            &mut columns.unscaled[i..i + n],
+            &mut columns.scaled[i..i + n],
+            &mut columns.minutes[i..i + n],
+            &mut columns.leftover[i..i + n],
+        ),
     }
 }
 
 // Z so far, and then a call that gave so many records and closed so.
-fn first_fewer(z: Closing, call: usize, count: usize, closing: Closing) -> Closing
+fn first_fewer(
+    z: Result<(), Stopped>,
+    call: Call,
+    count: usize,
+    closing: Result<(), Stopped>,
+) -> Result<(), Stopped>
     ensures { closing_of result ≡ or_else (closing_of z) (cond (ltb count (asks (call_of call))) (closing_of closing) full) }
 {
-    match z {
-        Closing::Stopped(first) => Closing::Stopped(first),
-        Closing::Full => {
-            if count < asked_by(call) {
-                closing
-            } else {
-                Closing::Full
-            }
-        }
-    }
+    z?;
+    if count < call.asks() { closing } else { Ok(()) }
 }
 
 // Makes the calls, which ask for n records, from a state on: over the bytes behind the header.
-fn calls_from(
-    n: usize,
-    st: State,
-    s: &[u8],
-    calls: &[usize],
-    time: &mut [f64],
-    axis: &mut [f64],
-    unscaled: &mut [f64],
-    scaled: &mut [f64],
-    minutes: &mut [u32],
-    leftover: &mut [u32],
-) -> AllCalls
-    requires { Room n (columns time.old axis.old unscaled.old scaled.old minutes.old leftover.old) × (n ≡ asked (calls_of calls.now)) }
-    ensures { ComesTo (called rule (calls_of calls.now) st s.now) n result (lent_columns time axis unscaled scaled minutes leftover) }
+fn calls_from(n: usize, st: State, s: &[u8], calls: &[Call], columns: &mut Columns<'_>) -> Rows
+    requires { Room n (held columns.old) × (n ≡ asked (calls_of calls.now)) }
+    ensures same { AreTheSame columns.old columns.new }
+    ensures comes_to { ComesTo (called rule (calls_of calls.now) st s.now) n result (lent columns) }
 {
     let mut cur = st;
     let mut at: usize = 0;
     let mut rows: usize = 0;
-    let mut closing = Closing::Full;
-    let mut j: usize = 0;
-    while j < calls.len() {
-        let call = calls[j];
-        let f = one_call(
-            call,
-            cur,
-            &s[at..],
-            rows,
-            time,
-            axis,
-            unscaled,
-            scaled,
-            minutes,
-            leftover,
-        );
-        let answer = f.closing;
-        closing = first_fewer(closing, call, f.count, answer);
-        let after = f.state;
-        cur = after;
+    let mut closing = Ok(());
+    for call in calls {
+        let f = one_call(*call, cur, &s[at..], rows, columns);
+        closing = first_fewer(closing, *call, f.count, f.closing);
+        cur = f.state;
         at += f.consumed;
         rows += f.count;
-        j += 1;
     }
-    AllCalls::Rows {
+    Rows {
         asked: n,
         count: rows,
         closing,
@@ -233,51 +183,25 @@ pub fn make_calls(
     mode: Mode,
     kind: u8,
     file: &[u8],
-    calls: &[usize],
-    time: &mut [f64],
-    axis: &mut [f64],
-    unscaled: &mut [f64],
-    scaled: &mut [f64],
-    minutes: &mut [u32],
-    leftover: &mut [u32],
-) -> AllCalls
-    ensures { Makes mode kind (calls_of calls.now) file.now result (lent_columns time axis unscaled scaled minutes leftover) }
+    calls: &[Call],
+    columns: &mut Columns<'_>,
+) -> Result<Rows, NoRoom>
+    ensures same { AreTheSame columns.old columns.new }
+    ensures makes { Makes mode kind (calls_of calls.now) file.now result (lent columns) }
 {
     demand3::demand_three();
-    if !reader::all_equal(
-        time.len(),
-        axis.len(),
-        unscaled.len(),
-        scaled.len(),
-        minutes.len(),
-        leftover.len(),
-    ) {
-        return AllCalls::Unequal;
+    if !columns.are_even() {
+        return Err(NoRoom::Unequal);
     }
-    let Asked::Records(n) = asked_by_all(calls, time.len()) else {
-        return AllCalls::Short;
+    let Some(n) = asked_by_all(calls, columns.time.len()) else {
+        return Err(NoRoom::Short);
     };
-    let o = modes::open_by(mode, kind, file, false);
-    let answer = o.answer;
-    match answer {
-        Opening::Stopped(z) => AllCalls::Rows {
+    match modes::open_by(mode, kind, file, false) {
+        Err(z) => Ok(Rows {
             asked: n,
             count: 0,
-            closing: Closing::Stopped(z),
-        },
-        Opening::Run(st, size) => {
-            calls_from(
-                n,
-                st,
-                &file[size..],
-                calls,
-                time,
-                axis,
-                unscaled,
-                scaled,
-                minutes,
-                leftover,
-            )
-        }
+            closing: Err(z),
+        }),
+        Ok(run) => Ok(calls_from(n, run.state, &file[run.size..], calls, columns)),
     }
 }

@@ -1,11 +1,10 @@
 -- One number for each answer of Open, of Fetch, of a sum, of a run date and of a window; those of the others are in error/specs/Number.
-use Rattle.std.specs.Prelude.{ℕ}
+use Rattle.std.specs.Prelude.{ℕ, Some, None, Ok, Err}
 use Rattle.rules.specs.Rule.{Read, got, stops}
 use Rattle.error.specs.Number.{stop_number, number_of}
 use Rattle.fetch.specs.Fetch.{Outcome, wrote, refuse}
 use Rattle.volumes.specs.Volume.{Told, instant, no_date, refuse as refuse_date, Place, inside, outside, undated, refused}
-use Rattle.sums.specs.declared.Total.{Total}
-use Rattle.sums.specs.declared.Total.TheVariants.{Absent, Amount, Refused}
+use Rattle.sums.specs.Sums.{AnyTotal}
 
 -- 103: a header was opened, a text or all eight fetched, a column added up, or a run date read
 abbrev pub read_number : {A : Type 0} → Read A → ℕ
@@ -17,10 +16,10 @@ outcome_number (wrote n) = 103
 outcome_number (refuse c) = c
 
 -- 17 is the number of the refusal
-abbrev pub total_number : Total → ℕ
-total_number Absent = 103
-total_number (Amount z) = 103
-total_number (Refused c) = number_of c
+abbrev pub total_number : AnyTotal → ℕ
+total_number None = 103
+total_number (Some (Ok z)) = 103
+total_number (Some (Err c)) = number_of c
 
 -- 'no date' has no number in the request: one beyond all refusals
 abbrev pub told_number : Told → ℕ

@@ -1,5 +1,5 @@
 -- What the lent memory holds after each call, by the definitions of Open, Fetch a text, Fill columns, totals and run dates.
-use Rattle.std.specs.Prelude.{◌≡◌, Bool, List, [], ◌∷◌, ℕ, length, ℤ, Float}
+use Rattle.std.specs.Prelude.{◌≡◌, Bool, List, [], ◌∷◌, ℕ, length, ℤ, Float, Option, Some, None, Ok, Err}
 use denote.Triple.Both.{Both}
 use Rattle.rules.specs.Rule.{Read, got, stops, map_read}
 use Rattle.rules.specs.Calls.{Reading}
@@ -12,16 +12,13 @@ use Rattle.streams.specs.declared.Mode.{Mode}
 use Rattle.streams.specs.declared.Mode.TheVariants.{Plain, Atlas}
 use Rattle.streams.specs.declared.Record.{Record}
 use Rattle.modes.specs.Modes.{begins_by}
-use Rattle.reader.specs.Columns.{Columns, Lent, columns_with, fill_of}
-use Rattle.states.specs.declared.Kept.{Kept}
-use Rattle.states.specs.declared.Kept.TheVariants as kept
+use Rattle.reader.specs.Columns.{Held, Lent, columns_with, fill_of}
 use Rattle.streams.specs.Next.{stored_of}
 use Rattle.states.specs.State.{numbers_of, counts_of, state_by}
 use Rattle.error.specs.Number.{closing_number}
-use Rattle.sums.specs.declared.Total.{Total}
-use Rattle.sums.specs.declared.Total.TheVariants.{Absent, Amount, Refused}
 use Rattle.chemread.specs.Answers.{read_number, outcome_number, total_number, told_number}
 use Rattle.volumes.specs.Volume.{Told, instant, no_date, refuse as refuse_date}
+use Rattle.sums.specs.Sums.{AnyTotal}
 
 -- ---- Open
 
@@ -75,7 +72,7 @@ pub record OpensInto (mode : Mode) (kind : ℕ) (x : Read Header) (r : ℕ) (m :
   pub answer : r ≡ read_number x
   pub memory : m.exit ≡ opened_by mode kind x m.entry
   -- the numbers hold the state before the first record
-  pub state : (h : Header) (n : ℕ) → x ≡ got h n → state_by m.exit.reading m.exit.numbers m.exit.counts m.exit.stored ≡ kept.State (begins_by mode kind h)
+  pub state : (h : Header) (n : ℕ) → x ≡ got h n → state_by m.exit.reading m.exit.numbers m.exit.counts m.exit.stored ≡ Some (begins_by mode kind h)
 
 -- ---- Fetch a text
 
@@ -113,16 +110,16 @@ pub record Filling : Type 0 where
   pub numbers : List Float
   pub counts : List ℕ
   pub stored : ℕ
-  pub columns : Columns
+  pub columns : Held
   pub given : List ℕ
 
-abbrev pub lent_filling : Lent (List Float) → Lent (List ℕ) → Lent ℕ → Both Columns Columns → Lent (List ℕ) → Both Filling Filling
+abbrev pub lent_filling : Lent (List Float) → Lent (List ℕ) → Lent ℕ → Both Held Held → Lent (List ℕ) → Both Filling Filling
 lent_filling x n t c g = record {
   entry = record { numbers = x.entry.now; counts = n.entry.now; stored = t.entry.now; columns = c.entry; given = g.entry.now };
   exit = record { numbers = x.exit.now; counts = n.exit.now; stored = t.exit.now; columns = c.exit; given = g.exit.now };
 }
 
-abbrev filled_by : Reading State Record → Columns → Filling
+abbrev filled_by : Reading State Record → Held → Filling
 filled_by g old = record {
   numbers = numbers_of g.state;
   counts = counts_of g.state;
@@ -132,16 +129,16 @@ filled_by g old = record {
 }
 
 -- without a state nothing is given, and the rest is as it was
-abbrev filling_after : Kept → List ℕ → Bool → Filling → Filling
-filling_after (kept.State st) s last old = filled_by (fill_of st s last old.columns) old.columns
-filling_after kept.NoKind s last old = record { numbers = old.numbers; counts = old.counts; stored = old.stored; columns = old.columns; given = 0 ∷ 0 ∷ [] }
+abbrev filling_after : Option State → List ℕ → Bool → Filling → Filling
+filling_after (Some st) s last old = filled_by (fill_of st s last old.columns) old.columns
+filling_after None s last old = record { numbers = old.numbers; counts = old.counts; stored = old.stored; columns = old.columns; given = 0 ∷ 0 ∷ [] }
 
-abbrev filling_number : Kept → List ℕ → Bool → Columns → ℕ
-filling_number (kept.State st) s last old = closing_number (fill_of st s last old).closing
-filling_number kept.NoKind s last old = 1
+abbrev filling_number : Option State → List ℕ → Bool → Held → ℕ
+filling_number (Some st) s last old = closing_number (fill_of st s last old).closing
+filling_number None s last old = 1
 
 -- the state that the numbers hold under a reading
-abbrev kept_in : ℕ → Filling → Kept
+abbrev kept_in : ℕ → Filling → Option State
 kept_in reading f = state_by reading f.numbers f.counts f.stored
 
 -- the answer r and the lent memory m, from the reading and the bytes s
@@ -149,18 +146,18 @@ pub record FillsInto (reading : ℕ) (s : List ℕ) (last : Bool) (r : ℕ) (m :
   pub answer : r ≡ filling_number (kept_in reading m.entry) s last m.entry.columns
   pub memory : m.exit ≡ filling_after (kept_in reading m.entry) s last m.entry
   -- under the same reading the numbers hold the state after the last record
-  pub state : (st : State) → kept_in reading m.entry ≡ kept.State st → kept_in reading m.exit ≡ kept.State (fill_of st s last m.entry.columns).state
+  pub state : (st : State) → kept_in reading m.entry ≡ Some st → kept_in reading m.exit ≡ Some (fill_of st s last m.entry.columns).state
 
 -- ---- the sum of a column
 
 -- a sum that was given; else nothing is written
-abbrev pub sum_after : Total → ℤ → ℤ
-sum_after Absent old = old
-sum_after (Amount z) old = z
-sum_after (Refused c) old = old
+abbrev pub sum_after : AnyTotal → ℤ → ℤ
+sum_after None old = old
+sum_after (Some (Ok z)) old = z
+sum_after (Some (Err c)) old = old
 
 -- the answer r and the lent sum before and after, by what the values add up to on top of it
-pub record SumsInto (t : Total) (r : ℕ) (old new : ℤ) : Type 0 where
+pub record SumsInto (t : AnyTotal) (r : ℕ) (old new : ℤ) : Type 0 where
   pub answer : r ≡ total_number t
   pub memory : new ≡ sum_after t old
 

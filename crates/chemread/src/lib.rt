@@ -1,7 +1,7 @@
 // Open, Fetch a text, all texts at once, Fill columns, the sum of a column, the run date and windows of time for C: include/chemstation.h declares them.
 #![tactic(auto)]
 
-ghost use Rattle.std.specs.Prelude.{◌≡◌, true};
+ghost use Rattle.std.specs.Prelude.{◌≡◌, true, Some, Ok};
 ghost use Rattle.rules.specs.Rule.{read};
 ghost use Rattle.error.specs.Number.{stop_of, stop_number, closing_number};
 ghost use Rattle.fetch.specs.Fetch.{fetch_rule, passed};
@@ -12,19 +12,15 @@ ghost use Rattle.chemread.specs.Lent.{header_of, corrections_of, lent_run, Opens
 ghost use Rattle.chemread.specs.Answers.{place_number};
 ghost use Rattle.volumes.specs.Volume.{run_date, placed};
 ghost use Rattle.sums.specs.Sums.{total_from};
-ghost use Rattle.sums.specs.declared.Total.TheVariants.{Amount};
 
 use error::{Refusal, Stopped};
-use fetch::Fetched;
 use metadata::ChemstationMetadata;
-use opening::Opening;
-use reader::Closing;
-use states::Kept;
+use states::Stored;
 use streams::Mode;
-use sums::Total;
-use volumes::{Placed, RunDate};
+use volumes::Placed;
 
 // ---- answers as numbers
+// Kept: (a) C reads numbers: include/chemstation.h names them.
 
 const MORE_BYTES: u8 = 101;
 
@@ -40,23 +36,24 @@ const IN_WINDOW: u8 = 105;
 const OUT_OF_WINDOW: u8 = 106;
 
 // The number of an answer without an outcome.
+// Kept: (d) no From: it would stand in the crate of `Stopped`, which does not know the numbers for C.
 fn stop_number(z: Stopped) -> u8
     ensures { result ≡ stop_number (stop_of z) }
 {
     match z {
-        Stopped::Refused(r) => error::number_of(r),
+        Stopped::Refused(r) => u8::from(r),
         Stopped::Finished => 0,
         Stopped::MoreBytes => MORE_BYTES,
     }
 }
 
 // The number of what closes a filling.
-fn closing_number(c: Closing) -> u8
+fn closing_number(c: Result<(), Stopped>) -> u8
     ensures { result ≡ closing_number (closing_of c) }
 {
     match c {
-        Closing::Full => FULL,
-        Closing::Stopped(z) => stop_number(z),
+        Ok(()) => FULL,
+        Err(z) => stop_number(z),
     }
 }
 
@@ -85,6 +82,7 @@ fn corrections_of(d: ChemstationMetadata) -> [f64; 4]
     ]
 }
 
+// Kept: (a) C lends the arrays one by one.
 // Opens a run by a reading: what its header says, and the state before the first record. Any other answer writes nothing.
 fn open_into(
     mode: Mode,
@@ -102,22 +100,23 @@ fn open_into(
 ) -> u8
     ensures { OpensInto mode kind (read last (open_by mode kind) s.now) result (lent_run header corrections text_starts text_lengths numbers counts stored_time reading) }
 {
-    let o = modes::open_by(mode, kind, s, last);
-    let d = o.metadata;
-    let answer = o.answer;
-    match answer {
-        Opening::Stopped(z) => stop_number(z),
-        Opening::Run(st, _) => {
+    match modes::open_by(mode, kind, s, last) {
+        Err(z) => stop_number(z),
+        Ok(run) => {
+            let d = run.metadata;
             *header = header_of(d);
             *corrections = corrections_of(d);
             let starts = d.text_starts;
             *text_starts = starts;
             let lengths = d.text_lengths;
             *text_lengths = lengths;
-            *numbers = states::numbers_of(st);
-            *counts = states::counts_of(st);
-            *stored_time = states::stored_of(st);
-            *reading = states::reading_of(st);
+            let stored = Stored::from(run.state);
+            let doubles = stored.numbers;
+            *numbers = doubles;
+            let wholes = stored.counts;
+            *counts = wholes;
+            *stored_time = stored.stored_time;
+            *reading = stored.reading;
             GIVEN
         }
     }
@@ -204,13 +203,14 @@ pub extern "C" fn chemstation_text(
     ensures text { FetchesInto (read true (fetch_rule kind number) s.now) result (lent_text out length) }
     ensures count { replaced.new ≡ passed kind number out.old s.now }
 {
-    let t = fetch::fetch_text(kind, number, s, out);
-    *replaced = t.replaced;
-    let answer = t.answer;
-    match answer {
-        Fetched::Refused(r) => error::number_of(r),
-        Fetched::Text(n) => {
-            *length = n;
+    match fetch::fetch_text(kind, number, s, out) {
+        Err(r) => {
+            *replaced = 0;
+            u8::from(r)
+        }
+        Ok(text) => {
+            *replaced = text.replaced;
+            *length = text.bytes;
             GIVEN
         }
     }
@@ -230,13 +230,16 @@ pub extern "C" fn chemstation_texts(
     ensures texts { TextsInto (read true (eight_rule kind) s.now) result (lent_texts out starts lengths) }
     ensures counts { replaced.new ≡ all_passed kind out.old s.now }
 {
-    let t = texts::fetch_texts(kind, s, out, starts, lengths);
-    let each = t.replaced;
-    *replaced = each;
-    let answer = t.answer;
-    match answer {
-        Fetched::Refused(r) => error::number_of(r),
-        Fetched::Text(_) => GIVEN,
+    match texts::fetch_texts(kind, s, out, starts, lengths) {
+        Err(r) => {
+            *replaced = [0; 8];
+            u8::from(r)
+        }
+        Ok(texts) => {
+            let each = texts.replaced;
+            *replaced = each;
+            GIVEN
+        }
     }
 }
 
@@ -264,25 +267,25 @@ pub extern "C" fn chemstation_fill(
 {
     let x = *numbers;
     let n = *counts;
-    let stored = *stored_time;
-    match states::state_by(reading, x, n, stored) {
-        Kept::NoKind => {
-            *given = [0, 0];
-            error::number_of(Refusal::UnknownKind)
-        }
-        Kept::State(st) => {
-            let f = reader::fill_columns(
-                st, s, last, time, axis, unscaled, scaled, minutes, leftover,
-            );
-            let after = f.state;
-            *numbers = states::numbers_of(after);
-            *counts = states::counts_of(after);
-            *stored_time = states::stored_of(after);
-            *given = [f.count, f.consumed];
-            let closing = f.closing;
-            closing_number(closing)
-        }
-    }
+    let kept = Stored {
+        numbers: x,
+        counts: n,
+        stored_time: *stored_time,
+        reading,
+    };
+    let Some(st) = kept.state() else {
+        *given = [0, 0];
+        return Refusal::UnknownKind.into();
+    };
+    let f = reader::fill_slices(st, s, last, time, axis, unscaled, scaled, minutes, leftover);
+    let after = Stored::from(f.state);
+    let x = after.numbers;
+    *numbers = x;
+    let n = after.counts;
+    *counts = n;
+    *stored_time = after.stored_time;
+    *given = [f.count, f.consumed];
+    closing_number(f.closing)
 }
 
 // ---- the sum of a column
@@ -290,16 +293,16 @@ pub extern "C" fn chemstation_fill(
 // Adds the values of a column to a sum, one behind the other. A refusal writes nothing.
 #[unsafe(no_mangle)]
 pub extern "C" fn chemstation_sum(values: &[f64], sum: &mut i64) -> u8
-    ensures { SumsInto (total_from (Amount sum.old) values.now) result sum.old sum.new }
+    ensures { SumsInto (total_from (Some (Ok sum.old)) values.now) result sum.old sum.new }
 {
     let before = *sum;
-    match tally::total_from(Total::Amount(before), values) {
-        Total::Amount(n) => {
+    match tally::total_from(Some(Ok(before)), values) {
+        Some(Ok(n)) => {
             *sum = n;
             GIVEN
         }
-        Total::Absent => GIVEN,
-        Total::Refused(r) => error::number_of(r),
+        None => GIVEN,
+        Some(Err(r)) => u8::from(r),
     }
 }
 
@@ -311,9 +314,9 @@ pub extern "C" fn chemstation_date(kind: u8, s: &[u8], instant: &mut u32) -> u8
     ensures { DatesInto (run_date kind s.now) result instant.old instant.new }
 {
     match volumes::run_date(kind, s) {
-        RunDate::Refused(r) => error::number_of(r),
-        RunDate::NoDate => NO_DATE,
-        RunDate::Instant(i) => {
+        Err(r) => u8::from(r),
+        Ok(None) => NO_DATE,
+        Ok(Some(i)) => {
             *instant = i;
             GIVEN
         }
@@ -326,9 +329,9 @@ pub extern "C" fn chemstation_window(kind: u8, s: &[u8], start: u32, end: u32) -
     ensures { result ≡ place_number (placed start end kind s.now) }
 {
     match volumes::in_window(start, end, kind, s) {
-        Placed::Refused(r) => error::number_of(r),
-        Placed::Undated => NO_DATE,
-        Placed::Inside => IN_WINDOW,
-        Placed::Outside => OUT_OF_WINDOW,
+        Err(r) => u8::from(r),
+        Ok(Placed::Undated) => NO_DATE,
+        Ok(Placed::Inside) => IN_WINDOW,
+        Ok(Placed::Outside) => OUT_OF_WINDOW,
     }
 }

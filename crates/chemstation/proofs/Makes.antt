@@ -7,7 +7,6 @@ use lib.IntN.{pos}
 use lib.ListN.{take, drop}
 use lib.Ieee.{Float}
 use Rattle.rules.specs.Rule.{Read, got, stops, read, map_read}
-use Rattle.rules.specs.Calls.{Item}
 use Rattle.rules.proofs.Laws.{read_map}
 use Rattle.common.specs.Bytes.{be, le, signed}
 use Rattle.common.proofs.Every.{Gets, Leads, to_gives, to_refuses, to_ends, leads, leads_number, leads_cond, leads_map, leads_may_end}
@@ -26,9 +25,8 @@ use Rattle.streams.specs.declared.Scans.{Scans}
 use Rattle.streams.specs.declared.Points.{Points}
 use Rattle.streams.specs.declared.State.{State}
 use Rattle.streams.specs.declared.State.TheVariants.{Fid, Ms, Mwd, Dad, Uv, Array}
-use Rattle.streams.specs.declared.Record.{Record}
 use Rattle.fid.specs.Fid.{fid_rule}
-use Rattle.ms.specs.Ms.{ms_point, ms_scans, ms_scanning}
+use Rattle.ms.specs.Ms.{ms_point, ms_scans}
 use Rattle.mwd.specs.Mwd.{mwd_point, mwd_rule}
 use Rattle.dad.specs.Dad.{dad_point, dad_scan, dad_scanning, dad_rule}
 use Rattle.uv.specs.Uv.{uv_point, uv_scan, uv_scanning, uv_rule}

@@ -1,6 +1,6 @@
 -- DAD and UV: what is answered of a state, by the plain reading's answer at its place; and which states these are.
 use mathlib.Core.Path.{◌≡◌, refl, sym, ap, ◌∙◌}
-use mathlib.Core.Logic.{◌⊎◌, inl, inr}
+use mathlib.Core.Logic.{inl, inr}
 use mathlib.Core.Bool.{Bool}
 use mathlib.Core.List.{List, [], ◌∷◌}
 use Prim.Native.Nat.{ℕ}
@@ -17,7 +17,7 @@ use Rattle.streams.specs.contracts.State.{the_type}
 use Rattle.dad.specs.Dad.{dad_rule}
 use Rattle.uv.specs.Uv.{uv_rule}
 use Rattle.atlas.specs.Atlas.{scan_due, debit_of, plain_of, item_by}
-use Rattle.atlas.specs.declared.Debit.TheVariants.{Plain}
+use Rattle.std.specs.Prelude.{None}
 use Rattle.atlas.proofs.AtlasLaws.{atlas_reads}
 use Rattle.chemstation.specs.Next.{fields, spectrum_fields}
 
@@ -39,7 +39,7 @@ of_spectra (Ms st) k = absurd (other_tag 1 (λ e. omega arith) (λ e. omega arit
 of_spectra (Mwd st) k = absurd (other_tag 2 (λ e. omega arith) (λ e. omega arith) (λ e. omega arith) (λ e. omega arith) k)
 of_spectra (Array st) k = absurd (other_tag 5 (λ e. omega arith) (λ e. omega arith) (λ e. omega arith) (λ e. omega arith) k)
 
-as_it_is : (x : Read (Item State Record)) → map_read (item_by Plain) x ≡ x
+as_it_is : (x : Read (Item State Record)) → map_read (item_by None) x ≡ x
 as_it_is (got x n) = refl
 as_it_is (stops z) = refl
 

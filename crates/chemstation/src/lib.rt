@@ -13,24 +13,26 @@ use error::Stopped;
 use fid::fid_next;
 use ms::ms_next;
 use mwd::mwd_next;
-use streams::{Next, State};
+use streams::{Given, State};
 use uv::uv_next;
 
 // The next record of DAD and UV, by the reading that the state is of; other kinds have none here.
-fn spectrum_next(st: State, s: &[u8], last: bool) -> Next
+fn spectrum_next(st: State, s: &[u8], last: bool) -> Result<Given, Stopped>
     ensures { answer_of result ≡ read last (rule_by st (spectrum_fields st)) s.now }
 {
     let debit = debit_of(st);
     match plain_of(st) {
         State::Dad(d) => atlas_by(debit, dad_next(d, s, last)),
         State::Uv(u) => atlas_by(debit, uv_next(u, s, last)),
-        _ => Next::Stopped(Stopped::Finished),
+        _ => Err(Stopped::Finished),
     }
 }
 
+// Kept: a function of each kind rather than a trait of the states (d): an impl stands in the crate of its trait or of its type, and both
+// would be `streams`, below the kinds.
 // The next record of any kind, by the reading that the state is of. A refusal, 'finished' and 'more bytes' consume nothing and leave the
 // state as it was.
-pub fn next_record(st: State, s: &[u8], last: bool) -> Next
+pub fn next_record(st: State, s: &[u8], last: bool) -> Result<Given, Stopped>
     ensures { answer_of result ≡ read last (rule st) s.now }
 {
     match st {

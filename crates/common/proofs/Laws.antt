@@ -1,6 +1,6 @@
 -- A number of m + n bytes is one of m and one of n bytes, joined: once for every width, and for both byte orders.
-use mathlib.Core.Path.{◌≡◌, refl, sym, ap, ap₂, ◌∙◌}
-use mathlib.Core.List.{List, [], ◌∷◌, ◌++◌, reverse, reverse-cons, reverse-append}
+use mathlib.Core.Path.{◌≡◌, refl, sym, ap, ◌∙◌}
+use mathlib.Core.List.{List, [], ◌∷◌, ◌++◌, reverse, reverse-append}
 use mathlib.Core.Bool.{cond}
 use Prim.Native.Nat.{ℕ, zero, suc, ◌+◌, ◌-◌, ◌*◌, ◌^◌, ◌≤◌, ◌<◌}
 use native.Mathlib.Nat.{mul_left_comm, pow-succ'}
@@ -8,23 +8,20 @@ use native.Mathlib.Omega.{arith}
 use lib.Dec.{ltb}
 use lib.IntN.{pos, negsuc, ◌-ℤ◌}
 use borrow.Author.Tests.{lt-ltb}
-use lib.ListN.{length, take, drop, get_or, length-append, length-take, length-drop}
-use lib.Seq.{take-add, drop-drop, drop-cons}
-use Rattle.common.specs.Bytes.{le, be, twos, signed, part}
-
-pub length_reverse : (l : List ℕ) → length (reverse l) ≡ length l
-length_reverse [] = refl
-length_reverse (x ∷ xs) = rw reverse-cons (rw length-append (omega (arith, length_reverse xs)))
+use Rattle.std.proofs.lemmas.List.{length-reverse}
+use lib.ListN.{length, drop, length-take, length-drop}
+use lib.Seq.{take-add, drop-drop}
+use Rattle.common.specs.Bytes.{le, be, twos, part}
 
 -- the law: the bytes a, and then b
-le_join : (a b : List ℕ) → le (a ++ b) ≡ le b * 256 ^ length a + le a
+pub le_join : (a b : List ℕ) → le (a ++ b) ≡ le b * 256 ^ length a + le a
 le_join [] b = omega arith
 le_join (x ∷ a) b =
     let next : le b * 256 ^ suc (length a) ≡ 256 * (le b * 256 ^ length a) = ap (λ p. le b * p) (pow-succ' 256 (length a)) ∙ mul_left_comm (le b) 256 (256 ^ length a) in
     omega (arith, le_join a b)
 
-be_join : (a b : List ℕ) → be (a ++ b) ≡ be a * 256 ^ length b + be b
-be_join a b = rw reverse-append (le_join (reverse b) (reverse a) ∙ rw length_reverse refl)
+pub be_join : (a b : List ℕ) → be (a ++ b) ≡ be a * 256 ^ length b + be b
+be_join a b = rw reverse-append (le_join (reverse b) (reverse a) ∙ rw length-reverse refl)
 
 pub length_part : (at w : ℕ) (s : List ℕ) → at + w ≤ length s → length (part at w s) ≡ w
 length_part at w s h = simp (length-take, length-drop) (omega arith)
@@ -39,16 +36,6 @@ module _ (s : List ℕ) (at m n : ℕ) where
   pub le_halves : at + (m + n) ≤ length s → le (part at (m + n) s) ≡ le (part (at + m) n s) * 256 ^ m + le (part at m s)
   le_halves h = ap le halves ∙ le_join (part at m s) (part (at + m) n s) ∙ ap (λ w. le (part (at + m) n s) * 256 ^ w + le (part at m s)) (length_part at m s (omega arith))
 
--- a byte is a number of one byte, in either order
-byte : (s : List ℕ) (at : ℕ) → at < length s → part at 1 s ≡ get_or s at 0 ∷ []
-byte s at h = ap (take 1) (drop-cons s at 0 h)
-
-pub be_bytes : (s : List ℕ) (at : ℕ) → at + 2 ≤ length s → be (part at 2 s) ≡ get_or s at 0 * 256 + get_or s (at + 1) 0
-be_bytes s at h = omega (arith, be_halves s at 1 1 h, ap be (byte s at (omega arith)), ap be (byte s (at + 1) (omega arith)))
-
-pub le_bytes : (s : List ℕ) (at : ℕ) → at + 2 ≤ length s → le (part at 2 s) ≡ get_or s (at + 1) 0 * 256 + get_or s at 0
-le_bytes s at h = omega (arith, le_halves s at 1 1 h, ap le (byte s at (omega arith)), ap le (byte s (at + 1) (omega arith)))
-
 -- ---- two's complement
 
 below_zero : (n m : ℕ) → n < m → pos n -ℤ pos m ≡ negsuc (m - suc n)
@@ -58,7 +45,3 @@ below_zero n (suc m) h = rw (lt-ltb n (suc m) h) refl
 -- as the machine reads n in so many bits
 pub twos_is : (bits n : ℕ) → n < 2 ^ bits → cond (ltb n (2 ^ (bits - 1))) (pos n) (negsuc (2 ^ bits - suc n)) ≡ twos bits n
 twos_is bits n h = ap (cond (ltb n (2 ^ (bits - 1))) (pos n)) (sym (below_zero n (2 ^ bits) h))
-
--- a signed number of w bytes, from the unsigned one
-pub signed_of : (order : List ℕ → ℕ) (at w : ℕ) (s : List ℕ) (n : ℕ) → at + w ≤ length s → n ≡ order (part at w s) → twos (8 * w) n ≡ signed order (part at w s)
-signed_of order at w s n h e = ap₂ (λ k m. twos (8 * k) m) (sym (length_part at w s h)) e

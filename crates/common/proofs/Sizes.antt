@@ -7,10 +7,11 @@ use native.Mathlib.Nat.{pow-succ', two-pow-succ}
 use native.Mathlib.Omega.{arith}
 use lib.IntN.{pos, negsuc, nat_abs}
 use lib.Dec.{ltb}
+use Rattle.std.proofs.lemmas.List.{length-reverse}
 use lib.ListN.{length, take, drop, get_or}
 use borrow.Author.Tests.{ltb-true, ltb-false}
 use Rattle.common.specs.Bytes.{le, be, twos, signed, AreBytes}
-use Rattle.common.proofs.Laws.{length_reverse, twos_is}
+use Rattle.common.proofs.Laws.{twos_is}
 
 -- ---- bytes
 
@@ -53,7 +54,7 @@ le_below [] h = omega arith
 le_below (b ∷ bs) h = omega (arith, h.0, le_below bs h.1, pow-succ' 256 (length bs))
 
 pub be_below : Order be
-be_below bs h = subst (λ n. be bs < 256 ^ n) (length_reverse bs) (le_below (reverse bs) (bytes_reverse bs [] h (unfold AreBytes in tt)))
+be_below bs h = subst (λ n. be bs < 256 ^ n) (length-reverse bs) (le_below (reverse bs) (bytes_reverse bs [] h (unfold AreBytes in tt)))
 
 -- in bits
 bits : (n : ℕ) → 256 ^ n ≡ 2 ^ (8 * n)

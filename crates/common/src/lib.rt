@@ -1,162 +1,145 @@
-// Numbers at a position of a byte slice, in the order of the Rust's `impl_extract!` list. The caller sees that the bytes are
-// there.
+// Numbers at a position of a byte slice, as the Rust's `impl_extract!` list has them. The caller sees that the bytes are there.
 #![tactic(auto)]
 
-ghost use Rattle.std.specs.Prelude.{◌≡◌, ◌+◌, ◌*◌, ◌≤◌, length};
-ghost use Rattle.common.specs.Bytes.{be, le, order_of, signed, twos, part};
+ghost use Rattle.std.specs.Prelude.{◌≡◌, refl, List, reverse, ℕ, ◌+◌, ◌≤◌, length};
+ghost use Rattle.common.specs.Bytes.{be, le, order_of, signed, part};
+ghost use Rattle.common.specs.Orders.{signed_mirrored};
 
-// ---- two halves of a number, the high one first
-
-fn join16(high: u8, low: u8) -> u16
-    ensures { result ≡ high * 256 + low }
-{
-    high as u16 * 256 + low as u16
-}
-
-fn join32(high: u16, low: u16) -> u32
-    ensures { result ≡ high * 65536 + low }
-{
-    high as u32 * 65536 + low as u32
-}
-
-fn join64(high: u32, low: u32) -> u64
-    ensures { result ≡ high * 4294967296 + low }
-{
-    high as u64 * 4294967296 + low as u64
-}
-
-// ---- the number whose two's complement is n
-
-fn signed16(n: u16) -> i16
-    ensures { result ≡ twos 16 n }
-{
-    if n < 32768 {
-        n as i16
-    } else {
-        !((65535 - n) as i16)
-    }
-}
-
-fn signed32(n: u32) -> i32
-    ensures { result ≡ twos 32 n }
-{
-    if n < 2147483648 {
-        n as i32
-    } else {
-        !((4294967295 - n) as i32)
-    }
-}
-
-// ---- big-endian
-
-// Big-endian, signed, 16 bits, at a position.
-pub fn be_i16(s: &[u8], at: usize) -> i16
-    requires { at + 2 ≤ length s.now }
-    ensures { result ≡ signed be (part at 2 s.now) }
-{
-    signed16(be_u16(s, at))
-}
-
-// Big-endian, unsigned, 16 bits, at a position.
-pub fn be_u16(s: &[u8], at: usize) -> u16
-    requires { at + 2 ≤ length s.now }
-    ensures { result ≡ be (part at 2 s.now) }
-{
-    join16(s[at], s[at + 1])
-}
-
-// Big-endian, signed, 32 bits, at a position.
-pub fn be_i32(s: &[u8], at: usize) -> i32
-    requires { at + 4 ≤ length s.now }
-    ensures { result ≡ signed be (part at 4 s.now) }
-{
-    signed32(be_u32(s, at))
-}
-
-// Big-endian, unsigned, 32 bits, at a position.
-pub fn be_u32(s: &[u8], at: usize) -> u32
-    requires { at + 4 ≤ length s.now }
-    ensures { result ≡ be (part at 4 s.now) }
-{
-    join32(be_u16(s, at), be_u16(s, at + 2))
-}
-
-// Big-endian, unsigned, 64 bits, at a position.
-pub fn be_u64(s: &[u8], at: usize) -> u64
-    requires { at + 8 ≤ length s.now }
-    ensures { result ≡ be (part at 8 s.now) }
-{
-    join64(be_u32(s, at), be_u32(s, at + 4))
-}
-
-// ---- little-endian
-
-// Little-endian, signed, 16 bits, at a position.
-pub fn le_i16(s: &[u8], at: usize) -> i16
-    requires { at + 2 ≤ length s.now }
-    ensures { result ≡ signed le (part at 2 s.now) }
-{
-    signed16(le_u16(s, at))
-}
-
-// Little-endian, unsigned, 16 bits, at a position.
-pub fn le_u16(s: &[u8], at: usize) -> u16
-    requires { at + 2 ≤ length s.now }
-    ensures { result ≡ le (part at 2 s.now) }
-{
-    join16(s[at + 1], s[at])
-}
-
-// Little-endian, signed, 32 bits, at a position.
-pub fn le_i32(s: &[u8], at: usize) -> i32
-    requires { at + 4 ≤ length s.now }
-    ensures { result ≡ signed le (part at 4 s.now) }
-{
-    signed32(le_u32(s, at))
-}
-
-// Little-endian, unsigned, 32 bits, at a position.
-pub fn le_u32(s: &[u8], at: usize) -> u32
-    requires { at + 4 ≤ length s.now }
-    ensures { result ≡ le (part at 4 s.now) }
-{
-    join32(le_u16(s, at + 2), le_u16(s, at))
-}
-
-// Little-endian, unsigned, 64 bits, at a position.
-pub fn le_u64(s: &[u8], at: usize) -> u64
-    requires { at + 8 ≤ length s.now }
-    ensures { result ≡ le (part at 8 s.now) }
-{
-    join64(le_u32(s, at + 4), le_u32(s, at))
-}
-
-// ---- in an order that is passed along
-
-#[derive(Clone, Copy)]
+// Which byte of a number stands first: the one that counts most, or the one that counts ones.
+#[derive(Clone, Copy, Debug, PartialEq, Eq)]
 pub enum Endian {
     Big,
     Little,
 }
 
-// Signed, 16 bits, at a position, in either order.
-pub fn i16_in(order: Endian, s: &[u8], at: usize) -> i16
-    requires { at + 2 ≤ length s.now }
-    ensures { result ≡ signed (order_of order) (part at 2 s.now) }
-{
-    match order {
-        Endian::Big => be_i16(s, at),
-        Endian::Little => le_i16(s, at),
+// A number of a fixed width in bytes.
+// Kept: (a) a slice and a position beside it: by the project's rule a reader stands on functions over a slice and a number.
+pub trait Number: Sized {
+    // how many bytes it has
+    ghost width: { ℕ };
+
+    // the number that bytes say in an order
+    ghost said_by: { (List ℕ → ℕ) → List ℕ → Self };
+
+    // Big-endian, at a position.
+    fn be_at(s: &[u8], at: usize) -> Self
+        requires { at + width ≤ length s.now }
+        ensures { result ≡ said_by be (part at width s.now) };
+
+    // Little-endian, at a position.
+    fn le_at(s: &[u8], at: usize) -> Self
+        requires { at + width ≤ length s.now }
+        ensures { result ≡ said_by le (part at width s.now) };
+
+    // At a position, in an order that is passed along.
+    fn in_order(order: Endian, s: &[u8], at: usize) -> Self
+        requires { at + width ≤ length s.now }
+        ensures { result ≡ said_by (order_of order) (part at width s.now) }
+    {
+        match order {
+            Endian::Big => Self::be_at(s, at),
+            Endian::Little => Self::le_at(s, at),
+        }
     }
+
+    // Either order says of the reversed bytes what the other says of the bytes.
+    ghost mirrored: { (bs : List ℕ) → said_by be bs ≡ said_by le (reverse bs) };
 }
 
-// Signed, 32 bits, at a position, in either order.
-pub fn i32_in(order: Endian, s: &[u8], at: usize) -> i32
-    requires { at + 4 ≤ length s.now }
-    ensures { result ≡ signed (order_of order) (part at 4 s.now) }
-{
-    match order {
-        Endian::Big => be_i32(s, at),
-        Endian::Little => le_i32(s, at),
+impl Number for u16 {
+    ghost width = { 2 };
+
+    ghost said_by = { λ order bs. order bs };
+
+    fn be_at(s: &[u8], at: usize) -> u16 {
+        u16::from_be_bytes([s[at], s[at + 1]])
     }
+
+    fn le_at(s: &[u8], at: usize) -> u16 {
+        u16::from_le_bytes([s[at], s[at + 1]])
+    }
+
+    ghost mirrored = { λ bs. refl };
+}
+
+impl Number for i16 {
+    ghost width = { 2 };
+
+    ghost said_by = { signed };
+
+    fn be_at(s: &[u8], at: usize) -> i16 {
+        u16::be_at(s, at).cast_signed()
+    }
+
+    fn le_at(s: &[u8], at: usize) -> i16 {
+        u16::le_at(s, at).cast_signed()
+    }
+
+    ghost mirrored = { signed_mirrored };
+}
+
+impl Number for u32 {
+    ghost width = { 4 };
+
+    ghost said_by = { λ order bs. order bs };
+
+    fn be_at(s: &[u8], at: usize) -> u32 {
+        u32::from_be_bytes([s[at], s[at + 1], s[at + 2], s[at + 3]])
+    }
+
+    fn le_at(s: &[u8], at: usize) -> u32 {
+        u32::from_le_bytes([s[at], s[at + 1], s[at + 2], s[at + 3]])
+    }
+
+    ghost mirrored = { λ bs. refl };
+}
+
+impl Number for i32 {
+    ghost width = { 4 };
+
+    ghost said_by = { signed };
+
+    fn be_at(s: &[u8], at: usize) -> i32 {
+        u32::be_at(s, at).cast_signed()
+    }
+
+    fn le_at(s: &[u8], at: usize) -> i32 {
+        u32::le_at(s, at).cast_signed()
+    }
+
+    ghost mirrored = { signed_mirrored };
+}
+
+impl Number for u64 {
+    ghost width = { 8 };
+
+    ghost said_by = { λ order bs. order bs };
+
+    fn be_at(s: &[u8], at: usize) -> u64 {
+        u64::from_be_bytes([
+            s[at],
+            s[at + 1],
+            s[at + 2],
+            s[at + 3],
+            s[at + 4],
+            s[at + 5],
+            s[at + 6],
+            s[at + 7],
+        ])
+    }
+
+    fn le_at(s: &[u8], at: usize) -> u64 {
+        u64::from_le_bytes([
+            s[at],
+            s[at + 1],
+            s[at + 2],
+            s[at + 3],
+            s[at + 4],
+            s[at + 5],
+            s[at + 6],
+            s[at + 7],
+        ])
+    }
+
+    ghost mirrored = { λ bs. refl };
 }

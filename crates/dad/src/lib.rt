@@ -7,24 +7,15 @@ ghost use Rattle.streams.specs.Told.{told, change_of};
 ghost use Rattle.streams.specs.Next.{sum_of, stepped, rule_by, answer_of};
 ghost use Rattle.dad.specs.Dad.{width_of, dad_made, dad_point, dad_scan, dad_rule};
 
-use common::{Endian, le_u16, le_u32};
-use error::{Stopped, cut};
-use floats::{f64_from_u16, f64_from_u32, minutes_of};
-use streams::{
-    Bytes, ChemstationDadState, Delta, DeltaAt, Next, Record, Scans, State, changed_by, delta_at,
-};
+use common::{Endian, Number};
+use error::{Stopped, lacking};
+use floats::minutes_of;
+use streams::{Bytes, ChemstationDadState, Delta, Given, Record, Scans, State, delta_at};
 
 // Bytes of a scan's type, and of its head: type, length, time, start, end, step, and 8 that are passed over.
 const TYPE: usize = 2;
 
 const HEAD: usize = TYPE + 2 + 4 + 2 + 2 + 2 + 8;
-
-// a - b, not below 0.
-fn saturating_sub(a: usize, b: usize) -> usize
-    ensures { result ≡ a - b }
-{
-    if a < b { 0 } else { a - b }
-}
 
 // How many bytes a delta took.
 fn delta_width(d: Delta) -> usize
@@ -37,11 +28,11 @@ fn delta_width(d: Delta) -> usize
 }
 
 // The record of a delta, and the state after it: the value and the bytes due are still those before.
-fn dad_given(st: ChemstationDadState, d: Delta, n: usize) -> Next
+fn dad_given(st: ChemstationDadState, d: Delta, n: usize) -> Result<Given, Stopped>
     ensures { answer_of result ≡ got (stepped (sum_of (State.Dad st)) (told (dad_made st d) (change_of d ∷ []))) n }
 {
-    let value = changed_by(st.cur_intensity, d);
-    let bytes = saturating_sub(st.n_bytes_left.0, delta_width(d));
+    let value = d.applied_to(st.cur_intensity);
+    let bytes = st.n_bytes_left.0.saturating_sub(delta_width(d));
     let record = Record::Spectrum {
         time: minutes_of(st.cur_time),
         wavelength: st.cur_wv / 20.0,
@@ -50,81 +41,71 @@ fn dad_given(st: ChemstationDadState, d: Delta, n: usize) -> Next
         minutes: st.stored_time / 60000,
         leftover: st.stored_time % 60000,
     };
-    let n_scans_left = st.n_scans_left;
     let state = ChemstationDadState {
-        n_scans_left,
         n_bytes_left: Bytes(bytes),
-        cur_time: st.cur_time,
         cur_intensity: value,
-        cur_wv: st.cur_wv,
-        wv_step: st.wv_step,
-        stored_time: st.stored_time,
+        ..st
     };
-    Next::Given(record, State::Dad(state), n)
+    Ok(Given {
+        record,
+        state: State::Dad(state),
+        bytes: n,
+    })
 }
 
 // The point at a position.
-fn dad_point(st: ChemstationDadState, s: &[u8], at: usize, last: bool) -> Next
+fn dad_point(st: ChemstationDadState, s: &[u8], at: usize, last: bool) -> Result<Given, Stopped>
     requires { at ≤ length s.now }
     ensures { answer_of result ≡ map_read (stepped (sum_of (State.Dad st))) (read_at last (dad_point st []) at s.now) }
 {
-    match delta_at(Endian::Little, s, at, last) {
-        DeltaAt::Read(d, n) => dad_given(st, d, n),
-        DeltaAt::Stopped(z) => Next::Stopped(z),
-    }
+    let (d, n) = delta_at(Endian::Little, s, at, last)?;
+    dad_given(st, d, n)
 }
 
 // The head of a scan and its first point.
-fn dad_scan(st: ChemstationDadState, s: &[u8], last: bool) -> Next
+fn dad_scan(st: ChemstationDadState, s: &[u8], last: bool) -> Result<Given, Stopped>
     requires { 0 < st.n_scans_left.0 }
     ensures { answer_of result ≡ map_read (stepped (sum_of (State.Dad st))) (read_at last (dad_scan st.n_scans_left) 0 s.now) }
 {
     if s.len() < TYPE {
-        return Next::Stopped(cut(last));
+        return Err(lacking(last, false));
     }
-    if le_u16(s, 0) != 67 {
-        return Next::Stopped(Stopped::Finished);
+    if u16::le_at(s, 0) != 67 {
+        return Err(Stopped::Finished);
     }
     if s.len() < HEAD {
-        return Next::Stopped(cut(last));
+        return Err(lacking(last, false));
     }
-    let bytes = saturating_sub(le_u16(s, 2) as usize, HEAD);
+    let bytes = (u16::le_at(s, 2) as usize).saturating_sub(HEAD);
     if bytes == 0 {
-        return Next::Stopped(Stopped::Finished);
+        return Err(Stopped::Finished);
     }
-    let stored_time = le_u32(s, 4);
+    let stored_time = u32::le_at(s, 4);
     let state = ChemstationDadState {
         n_scans_left: Scans(st.n_scans_left.0 - 1),
         n_bytes_left: Bytes(bytes),
-        cur_time: f64_from_u32(stored_time),
+        cur_time: f64::from(stored_time),
         cur_intensity: 0.0,
-        cur_wv: f64_from_u16(le_u16(s, 8)),
-        wv_step: f64_from_u16(le_u16(s, 12)),
+        cur_wv: f64::from(u16::le_at(s, 8)),
+        wv_step: f64::from(u16::le_at(s, 12)),
         stored_time,
     };
     dad_point(state, s, HEAD, last)
 }
 
 // The next record of DAD.
-pub fn dad_next(st: ChemstationDadState, s: &[u8], last: bool) -> Next
+pub fn dad_next(st: ChemstationDadState, s: &[u8], last: bool) -> Result<Given, Stopped>
     ensures { answer_of result ≡ read last (rule_by (State.Dad st) (dad_rule st)) s.now }
 {
-    let n_scans_left = st.n_scans_left;
-    if n_scans_left.0 == 0 {
-        return Next::Stopped(Stopped::Finished);
+    if st.n_scans_left.0 == 0 {
+        return Err(Stopped::Finished);
     }
-    let n_bytes_left = st.n_bytes_left;
-    if n_bytes_left.0 == 0 {
+    if st.n_bytes_left.0 == 0 {
         return dad_scan(st, s, last);
     }
     let state = ChemstationDadState {
-        n_scans_left,
-        n_bytes_left,
-        cur_time: st.cur_time,
-        cur_intensity: st.cur_intensity,
         cur_wv: st.cur_wv + st.wv_step,
-        wv_step: st.wv_step,
-        stored_time: st.stored_time,
+        ..st
     };
     dad_point(state, s, 0, last)
 }

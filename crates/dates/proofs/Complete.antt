@@ -5,6 +5,7 @@ use mathlib.Core.List.{List, [], ◌∷◌, ◌++◌}
 use Prim.Native.Nat.{ℕ}
 use lib.ListN.{length, drop, get_or}
 use lib.Seq.{drop-append_seam}
+use Rattle.std.proofs.Common.{Some}
 use borrow.Author.Tests.{not-true}
 use Rattle.utf8.proofs.Cases.{first, second, never}
 use Rattle.items.specs.declared.Item.{Item}
@@ -12,7 +13,7 @@ use Rattle.items.specs.declared.Item.TheVariants.{Sign, Two, OneOrTwo, MonthName
 use Rattle.items.specs.Items.{is_digit}
 use Rattle.items.specs.Writing.{sign, two, one, or_two, month, am, pm, plus, minus}
 use Rattle.items.proofs.Complete.{Clear, found_of, found, AtMostOne, no_value, a_value, at_most_one}
-use Rattle.dates.specs.Dates.{Values, some, onward, values_of}
+use Rattle.dates.specs.Dates.{Values, onward, values_of}
 use Rattle.dates.specs.Grammar.{Written, none as nil, next}
 
 -- a character that is no digit
@@ -62,11 +63,11 @@ clear HalfDay r e = tt
 clear PlusMinus r e = tt
 
 -- the values that come, where those of the rest come behind the item
-onward_found : {v vs : List ℕ} (n : ℕ) (rest : ℕ → Values) → AtMostOne v → rest n ≡ some vs → onward (found_of v n) rest ≡ some (v ++ vs)
+onward_found : {v vs : List ℕ} (n : ℕ) (rest : ℕ → Values) → AtMostOne v → rest n ≡ Some vs → onward (found_of v n) rest ≡ Some (v ++ vs)
 onward_found n rest no_value e = e
 onward_found n rest a_value e = rw e
 
-pub complete : {is : List Item} {vs t : List ℕ} → Written is vs t → spaced is ≡ true → values_of is t ≡ some vs
+pub complete : {is : List Item} {vs t : List ℕ} → Written is vs t → spaced is ≡ true → values_of is t ≡ Some vs
 unfolding values_of
 complete nil e = refl
 complete (next {i} {is} {v} {vs} {s} {t} w r) e =

@@ -1,20 +1,18 @@
 -- The values are in the ranges of their items, and say a moment of the calendar's years.
-use mathlib.Core.Path.{◌≡◌, refl, sym, ap, ◌∙◌}
-use mathlib.Core.Bool.{true, false, not}
+use mathlib.Core.Path.{◌≡◌, refl}
 use mathlib.Core.List.{List, [], ◌∷◌}
-use Prim.Native.Nat.{ℕ, zero, suc, ◌≤◌, ◌<◌}
+use Prim.Native.Nat.{ℕ, zero, suc, ◌-◌, ◌≤◌, ◌<◌}
 use native.Mathlib.Omega.{arith}
-use lib.ListN.{length, take, get_or}
-use lib.Seq.{get_or-take, length-take-le}
+use lib.ListN.{length, get_or}
 use borrow.Table.Steps.{cases as by}
 use lib.Dec.{leb}
 use Rattle.calendar.specs.Calendar.{Printed}
 use Rattle.items.specs.declared.Item.{Item}
-use borrow.Author.Tests.{leb-true, leb-false, not-true, not-false}
-use Rattle.dates.specs.declared.Numbers.{Numbers}
+use Rattle.std.proofs.Common.{Some, replicate, ◌++◌}
+use borrow.Author.Tests.{leb-true, leb-false}
 use Rattle.dates.specs.declared.Form.{Form}
 use Rattle.dates.specs.declared.Form.TheVariants.{First, Second, Third, Fourth}
-use Rattle.dates.specs.Dates.{first_form, fourth_form, items_of, year_of, half_day_moment, moment_of, Values, none as absent, some, numbers_in, values_of, lows, highs, InRanges, InSpan}
+use Rattle.dates.specs.Dates.{first_form, fourth_form, items_of, year_of, half_day_moment, moment_of, values_of, padded, lows, highs, InRanges, InSpan}
 use Rattle.dates.specs.Grammar.{Written, none, next}
 use Rattle.items.specs.Writing.{sign, two, one, or_two, month, am, pm, plus, minus}
 use Rattle.dates.proofs.Sound.{written}
@@ -35,10 +33,6 @@ between (next (am x) r) = also {l = 0} {h = 12} {v = 0} (omega arith) (omega ari
 between (next (pm x) r) = also {l = 0} {h = 12} {v = 12} (omega arith) (omega arith) (between r)
 between (next plus r) = between r
 between (next minus r) = between r
-
-counted : {ls hs vs : List ℕ} → Between ls hs vs → length vs ≡ length ls
-counted nil = refl
-counted (also p q b) = ap suc (counted b)
 
 at : {ls hs vs : List ℕ} → Between ls hs vs → (k : ℕ) → k < length ls → (get_or ls k 0 ≤ get_or vs k 0) × (get_or vs k 0 ≤ get_or hs k 0)
 at nil k h = absurd (omega arith)
@@ -67,34 +61,27 @@ in_span Fourth v r =
     let m : (k : ℕ) → k < 7 → get_or v k 0 ≤ get_or (highs fourth_form) k 0 = λ k h. (r.each k h).1 in
     record { year = printed_year (get_or v 2 0) (m 2 (omega arith)); month = m 0 (omega arith); hour = omega (arith, m 6 (omega arith)); minute = m 4 (omega arith); second = m 5 (omega arith) }
 
--- ---- the values that the loop found
+-- ---- zeros behind the values change nothing
 
-pub no_values : (r : Numbers) (x : Values) → not r.there ≡ true → numbers_in r ≡ x → x ≡ absent
-no_values r x h e = sym e ∙ simp (not-true r.there h)
+get_or-zeros : (n k : ℕ) → get_or (replicate {A = ℕ} n 0) k 0 ≡ 0
+get_or-zeros zero k = refl
+get_or-zeros (suc n) zero = refl
+get_or-zeros (suc n) (suc k) = get_or-zeros n k
 
-pub its_values : (r : Numbers) (x : Values) → not r.there ≡ false → numbers_in r ≡ x → x ≡ some (take r.count r.values)
-its_values r x h e = sym e ∙ simp (not-false r.there h)
+pub get_or-padded : (vs : List ℕ) (k : ℕ) → get_or (padded vs) k 0 ≡ get_or vs k 0
+get_or-padded vs k = of vs (16 - length vs) k
+  where
+    of : (us : List ℕ) (n j : ℕ) → get_or (us ++ replicate n 0) j 0 ≡ get_or us j 0
+    of [] n j = get_or-zeros n j
+    of (u ∷ us) n zero = refl
+    of (u ∷ us) n (suc j) = of us n j
 
--- the first six or more of them
-six : (v : List ℕ) (n k : ℕ) → k < n → get_or (take n v) k 0 ≡ get_or v k 0
-six v n k h = get_or-take n v k 0 h
+pub padded_ranges : (is : List Item) (t vs : List ℕ) → values_of is t ≡ Some vs → InRanges is (padded vs)
+padded_ranges is t vs e = let r = written_ranges (written is t vs e) in record { each = λ k h. rw (get_or-padded vs k) (r.each k h) }
 
-moment_taken : (f : Form) (v : List ℕ) → moment_of f v ≡ moment_of f (take (length (lows (items_of f))) v)
+pub padded_moment : (f : Form) (vs : List ℕ) → moment_of f (padded vs) ≡ moment_of f vs
 unfolding moment_of
-moment_taken First v = rw (six v 6 0 (omega arith), six v 6 1 (omega arith), six v 6 2 (omega arith), six v 6 3 (omega arith), six v 6 4 (omega arith), six v 6 5 (omega arith))
-moment_taken Second v = rw (six v 6 0 (omega arith), six v 6 1 (omega arith), six v 6 2 (omega arith), six v 6 3 (omega arith), six v 6 4 (omega arith), six v 6 5 (omega arith))
-moment_taken Third v = rw (six v 8 0 (omega arith), six v 8 1 (omega arith), six v 8 2 (omega arith), six v 8 3 (omega arith), six v 8 4 (omega arith), six v 8 5 (omega arith))
-moment_taken Fourth v = rw (six v 7 0 (omega arith), six v 7 1 (omega arith), six v 7 2 (omega arith), six v 7 3 (omega arith), six v 7 4 (omega arith), six v 7 5 (omega arith), six v 7 6 (omega arith))
-
-module _ (f : Form) (t v : List ℕ) (n : ℕ) (e : values_of (items_of f) t ≡ some (take n v)) (h : n ≤ length v) where
-  all_between : Between (lows (items_of f)) (highs (items_of f)) (take n v)
-  all_between = between (written (items_of f) t (take n v) e)
-
-  as_many : n ≡ length (lows (items_of f))
-  as_many = sym (length-take-le n v h) ∙ counted all_between
-
-  pub in_ranges : InRanges (items_of f) v
-  in_ranges = record { each = λ k l. rw (sym (six v n k (omega (arith, as_many)))) (at all_between k l) }
-
-  pub same_moment : moment_of f v ≡ moment_of f (take n v)
-  same_moment = moment_taken f v ∙ ap (λ (m : ℕ). moment_of f (take m v)) (sym as_many)
+padded_moment First vs = simp (get_or-padded vs)
+padded_moment Second vs = simp (get_or-padded vs)
+padded_moment Third vs = simp (get_or-padded vs)
+padded_moment Fourth vs = simp (get_or-padded vs)

@@ -1,24 +1,25 @@
 -- The loop over the items of a form.
 use mathlib.Core.Path.{◌≡◌, refl, sym, ap, ◌∙◌}
-use mathlib.Core.Bool.{cond}
 use mathlib.Core.List.{List, [], ◌∷◌, ◌++◌}
 use Prim.Native.Nat.{ℕ, suc, ◌+◌, ◌-◌, ◌≤◌, ◌<◌}
 use native.Mathlib.Numerals.{add-one}
 use native.Mathlib.Omega.{arith}
 use lib.Dec.{eqb}
 use lib.ListN.{length, take, drop, set, get_or, length-take, length-drop, length-set}
-use lib.Seq.{drop-cons, drop-drop, drop-length, take-suc-set, take_all}
+use lib.Seq.{drop-cons, drop-drop, drop-length, drop-set-lt, length-take-le, take-suc-set, take_all}
 use borrow.Author.Tests.{eqb-true, eqb-false, eq-eqb, ne_eqb}
 use borrow.Table.Steps.{cases as by}
 use Rattle.items.specs.declared.Item.{Item}
 use Rattle.items.specs.declared.Item.TheVariants.{Sign}
 use Rattle.dates.specs.declared.Form.{Form}
 use Rattle.dates.specs.declared.Form.TheVariants.{First, Second, Third, Fourth}
+use Rattle.std.proofs.Common.{Option, Some, None, replicate, take-append-drop}
+use Rattle.std.specs.Bool.{then_some}
+use Rattle.std.specs.Option.{option_map}
 use Rattle.items.specs.declared.Found.{Found}
-use Rattle.items.specs.declared.Found.TheVariants.{Nothing, Passed, Value}
 use Rattle.items.specs.Items.{stands_at}
-use Rattle.items.proofs.Sound.{passed_within, value_within}
-use Rattle.dates.specs.Dates.{items_of, Values, none, some, before, onward, values_of}
+use Rattle.items.proofs.Sound.{ends_within}
+use Rattle.dates.specs.Dates.{items_of, Values, before, with_value, onward, values_of, padded}
 
 -- values before others
 abbrev before_all : List ℕ → Values → Values
@@ -29,18 +30,17 @@ one_more : (vs : List ℕ) (v : ℕ) (x : Values) → before_all (vs ++ (v ∷ [
 one_more [] v x = refl
 one_more (w ∷ vs) v x = ap (before w) (one_more vs v x)
 
-before_nothing : (vs : List ℕ) → before_all vs none ≡ none
+before_nothing : (vs : List ℕ) → before_all vs None ≡ None
 before_nothing [] = refl
 before_nothing (v ∷ vs) = ap (before v) (before_nothing vs)
 
-before_end : (vs : List ℕ) → before_all vs (some []) ≡ some vs
+before_end : (vs : List ℕ) → before_all vs (Some []) ≡ Some vs
 before_end [] = refl
 before_end (v ∷ vs) = ap (before v) (before_end vs)
 
-onward_same : (f : Found) (g h : ℕ → Values) → ((m : ℕ) → g m ≡ h m) → onward f g ≡ onward f h
-onward_same Nothing g h e = refl
-onward_same (Passed n) g h e = e n
-onward_same (Value v n) g h e = ap (before v) (e n)
+onward_same : (f : Option Found) (g h : ℕ → Values) → ((m : ℕ) → g m ≡ h m) → onward f g ≡ onward f h
+onward_same None g h e = refl
+onward_same (Some f) g h e = ap (with_value f.value) (e f.width)
 
 -- behind k items, of which n gave values, with the text read as far as `at`
 pub record Walked (is : List Item) (t values : List ℕ) (n at k : ℕ) : Type 0 where
@@ -49,9 +49,10 @@ pub record Walked (is : List Item) (t values : List ℕ) (n at k : ℕ) : Type 0
   pub items : k ≤ length is
   pub within : at ≤ length t
   pub room : length values ≡ 16
+  pub zeros : drop n values ≡ replicate (16 - n) 0
 
-pub begun : (is : List Item) (t values : List ℕ) → length values ≡ 16 → Walked is t values 0 0 0
-begun is t values h = record { read = refl; few = omega arith; items = omega arith; within = omega arith; room = h }
+pub begun : (is : List Item) (t : List ℕ) → Walked is t (replicate 16 0) 0 0 0
+begun is t = record { read = refl; few = omega arith; items = omega arith; within = omega arith; room = refl; zeros = refl }
 
 module _ (is : List Item) (t values : List ℕ) (n at k : ℕ) (w : Walked is t values n at k) (h : k < length is) where
   abbrev item : Item
@@ -61,52 +62,65 @@ module _ (is : List Item) (t values : List ℕ) (n at k : ℕ) (w : Walked is t 
   tail_length = simp (length-take, length-drop) (omega arith)
 
   -- the item at hand, in the rest of the text
-  next_item : (f : Found) → f ≡ stands_at item (take (length t - at) (drop at t)) → values_of is t ≡ before_all (take n values) (onward f (λ m. values_of (drop (suc k) is) (drop (at + m) t)))
+  next_item : (f : Option Found) → f ≡ stands_at item (take (length t - at) (drop at t)) → values_of is t ≡ before_all (take n values) (onward f (λ m. values_of (drop (suc k) is) (drop (at + m) t)))
   unfolding values_of
   next_item f e =
       let l : take (length t - at) (drop at t) ≡ drop at t = take_all (length t - at) (drop at t) (simp length-drop (omega arith)) in
       let g : f ≡ stands_at item (drop at t) = rw l at e in
       let rest : ℕ → Values = λ m. values_of (drop (suc k) is) (drop m (drop at t)) in
       let onto : values_of (drop k is) (drop at t) ≡ onward (stands_at item (drop at t)) rest = rw (drop-cons is k (Sign 0) h) in
-      w.read ∙ ap (before_all (take n values)) (onto ∙ ap (λ (x : Found). onward x rest) (sym g) ∙ onward_same f rest _ (λ m. ap (values_of (drop (suc k) is)) (drop-drop m at t)))
+      w.read ∙ ap (before_all (take n values)) (onto ∙ ap (λ (x : Option Found). onward x rest) (sym g) ∙ onward_same f rest _ (λ m. ap (values_of (drop (suc k) is)) (drop-drop m at t)))
 
-  pub not_found : (f : Found) → f ≡ stands_at item (take (length t - at) (drop at t)) → f ≡ Nothing → none ≡ values_of is t
-  not_found f e p = sym (next_item f e ∙ rw p (before_nothing (take n values)))
+  pub not_found : None ≡ stands_at item (take (length t - at) (drop at t)) → values_of is t ≡ None
+  not_found e = next_item None e ∙ before_nothing (take n values)
 
-  pub on_passed : (f : Found) (m : ℕ) → f ≡ stands_at item (take (length t - at) (drop at t)) → f ≡ Passed m → Walked is t values n (at + m) (k + 1)
-  on_passed f m e p =
-      record {
-        read = rw (add-one k) (rw p at (next_item f e));
-        few = omega (arith, w.few);
-        items = omega arith;
-        within = omega (arith, passed_within item (take (length t - at) (drop at t)) e p, tail_length);
-        room = w.room;
-      }
+  module _ (f : Found) (e : Some f ≡ stands_at item (take (length t - at) (drop at t))) where
+    pub ends : at + f.width ≤ length t
+    ends = omega (arith, ends_within item (take (length t - at) (drop at t)) f e, tail_length)
 
-  pub on_value : (f : Found) (v m : ℕ) → f ≡ stands_at item (take (length t - at) (drop at t)) → f ≡ Value v m → n < 16 → Walked is t (set values n v) (n + 1) (at + m) (k + 1)
-  on_value f v m e p r =
-      record {
-        read = rw (add-one k, add-one n, take-suc-set values n v (omega (arith, w.room))) (rw p at (next_item f e) ∙ sym (one_more (take n values) v (values_of (drop (suc k) is) (drop (at + m) t))));
-        few = omega (arith, w.few);
-        items = omega arith;
-        within = omega (arith, value_within item (take (length t - at) (drop at t)) e p, tail_length);
-        room = length-set values n v ∙ w.room;
-      }
+    pub on_passed : f.value ≡ None → Walked is t values n (at + f.width) (k + 1)
+    on_passed p =
+        record {
+          read = rw (add-one k) (rw p at (next_item (Some f) e));
+          few = omega (arith, w.few);
+          items = omega arith;
+          within = ends;
+          room = w.room;
+          zeros = w.zeros;
+        }
+
+    pub on_value : (v : ℕ) → f.value ≡ Some v → n < 16 → Walked is t (set values n v) (n + 1) (at + f.width) (k + 1)
+    on_value v p r =
+        record {
+          read = rw (add-one k, add-one n, take-suc-set values n v (omega (arith, w.room))) (rw p at (next_item (Some f) e) ∙ sym (one_more (take n values) v (values_of (drop (suc k) is) (drop (at + f.width) t))));
+          few = omega (arith, w.few);
+          items = omega arith;
+          within = ends;
+          room = length-set values n v ∙ w.room;
+          zeros = drop-set-lt (n + 1) values n v (omega arith) ∙ sym (drop-drop 1 n values) ∙ ap (drop 1) w.zeros ∙ fewer (16 - n) (16 - (n + 1)) (omega arith);
+        }
+      where
+        fewer : (i j : ℕ) → i ≡ suc j → drop 1 (replicate {A = ℕ} i 0) ≡ replicate j 0
+        fewer i j q = rw q
 
 -- behind the last item the text ends, or it does not have the form
-pub ended : (is : List Item) (t values : List ℕ) (n at k : ℕ) → Walked is t values n at k → length is ≤ k → cond (eqb at (length t)) (some (take n values)) none ≡ values_of is t
+pub ended : (is : List Item) (t values : List ℕ) (n at k : ℕ) → Walked is t values n at k → length is ≤ k → n ≤ 16 → then_some (eqb at (length t)) values ≡ option_map padded (values_of is t)
 unfolding values_of
-ended is t values n at k w h =
+ended is t values n at k w h few =
     let e : k ≡ length is = omega (arith, w.items) in
     let d : drop k is ≡ [] = ap (λ (x : ℕ). drop x is) e ∙ drop-length is in
     let r : values_of is t ≡ before_all (take n values) (values_of [] (drop at t)) = rw d at w.read in
+    let size : length (take n values) ≡ n = length-take-le n values (omega (arith, w.room)) in
+    let all : padded (take n values) ≡ values = rw (size, ← w.zeros) (take-append-drop n values) in
     by (eqb at (length t))
     (λ q.
     let z : length (drop at t) ≡ 0 = simp length-drop (omega (arith, eqb-true at (length t) q)) in
-    rw q (sym (r ∙ rw (eq-eqb (length (drop at t)) 0 z) (before_end (take n values)))))
+    let g : values_of is t ≡ Some (take n values) = r ∙ rw (eq-eqb (length (drop at t)) 0 z) (before_end (take n values)) in
+    rw (q, g, all))
     (λ q.
     let z : length (drop at t) ≡ 0 → ⊥ = λ y. eqb-false at (length t) q (omega (arith, sym (length-drop at t) ∙ y, w.within)) in
-    rw q (sym (r ∙ rw (ne_eqb (length (drop at t)) 0 z) (before_nothing (take n values)))))
+    let g : values_of is t ≡ None = r ∙ rw (ne_eqb (length (drop at t)) 0 z) (before_nothing (take n values)) in
+    rw (q, g))
 
 pub most_items : (f : Form) → length (items_of f) ≤ 15
 most_items First = omega arith

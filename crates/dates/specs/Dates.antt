@@ -1,6 +1,6 @@
 -- Run dates (request 6): 'Read the run date in four forms'.
 use Prim.Native.Char.{Char, code}
-use Rattle.std.specs.Prelude.{cond, List, [], ◌∷◌, ◌++◌, ℕ, ◌+◌, ◌%◌, ◌≤◌, ◌<◌, leb, eqb, length, take, drop, get_or}
+use Rattle.std.specs.Prelude.{cond, List, [], ◌∷◌, ◌++◌, Option, None, Some, ℕ, ◌+◌, ◌-◌, ◌%◌, ◌≤◌, ◌<◌, leb, eqb, length, drop, get_or, replicate}
 use Rattle.calendar.specs.declared.Moment.{Moment}
 use Rattle.calendar.specs.Calendar.{is_day, instant_of, Printed}
 use Rattle.items.specs.declared.Item.{Item}
@@ -8,11 +8,7 @@ use Rattle.items.specs.declared.Item.TheVariants.{Sign, Two, OneOrTwo, MonthName
 use Rattle.dates.specs.declared.Form.{Form}
 use Rattle.dates.specs.declared.Form.TheVariants.{First, Second, Third, Fourth}
 use Rattle.items.specs.declared.Found.{Found}
-use Rattle.items.specs.declared.Found.TheVariants.{Nothing, Passed, Value}
 use Rattle.items.specs.Items.{stands_at}
-use Rattle.dates.specs.declared.Numbers.{Numbers}
-use Rattle.dates.specs.declared.Date.{Date}
-use Rattle.dates.specs.declared.Date.TheVariants.{Instant, NoDate}
 
 -- ---- The forms, item by item.
 
@@ -82,41 +78,44 @@ moment_of Fourth vs = moment (get_or vs 2 0) (get_or vs 0 0) (get_or vs 1 0) (ho
 -- ---- Reading.
 
 -- the values that a text has of the items one behind the other, where it has these and nothing behind them
-pub data Values : Type 0 where
-  none : Values
-  some : List ℕ → Values
+abbrev pub Values : Type 0
+Values = Option (List ℕ)
 
 abbrev pub before : ℕ → Values → Values
-before v none = none
-before v (some vs) = some (v ∷ vs)
+before v None = None
+before v (Some vs) = Some (v ∷ vs)
 
-abbrev pub onward : Found → (ℕ → Values) → Values
-onward Nothing rest = none
-onward (Passed n) rest = rest n
-onward (Value v n) rest = before v (rest n)
+-- an item's value, if it has one, and those behind it
+abbrev pub with_value : Option ℕ → Values → Values
+with_value None vs = vs
+with_value (Some v) vs = before v vs
+
+abbrev pub onward : Option Found → (ℕ → Values) → Values
+onward None rest = None
+onward (Some f) rest = with_value f.value (rest f.width)
 
 unfoldable pub values_of : List Item → List ℕ → Values
-values_of [] t = cond (eqb (length t) 0) (some []) none
+values_of [] t = cond (eqb (length t) 0) (Some []) None
 values_of (i ∷ is) t = onward (stands_at i t) (λ n. values_of is (drop n t))
 
 -- ---- The date.
 
-abbrev pub date_at : Moment → Date
-date_at x = cond (is_day x.year x.month x.day) (Instant (instant_of x)) NoDate
+abbrev pub date_at : Moment → Option ℕ
+date_at x = cond (is_day x.year x.month x.day) (Some (instant_of x)) None
 
-abbrev pub date_from : Form → Values → Date
-date_from f none = NoDate
-date_from f (some vs) = date_at (moment_of f vs)
+abbrev pub date_from : Form → Values → Option ℕ
+date_from f None = None
+date_from f (Some vs) = date_at (moment_of f vs)
 
-abbrev pub date_by : Form → List ℕ → Date
+abbrev pub date_by : Form → List ℕ → Option ℕ
 date_by f t = date_from f (values_of (items_of f) t)
 
-abbrev pub or_else : Date → Date → Date
-or_else (Instant i) d = Instant i
-or_else NoDate d = d
+abbrev pub or_else : Option ℕ → Option ℕ → Option ℕ
+or_else (Some i) d = Some i
+or_else None d = d
 
 -- 'Anything else is 'no date''
-unfoldable pub date_of : List ℕ → Date
+unfoldable pub date_of : List ℕ → Option ℕ
 date_of t = or_else (date_by First t) (or_else (date_by Second t) (or_else (date_by Third t) (date_by Fourth t)))
 
 -- ---- Steps of the code.
@@ -156,5 +155,6 @@ pub record InSpan (x : Moment) : Type 0 where
   pub minute : x.minute ≤ 59
   pub second : x.second ≤ 59
 
-abbrev pub numbers_in : Numbers → Values
-numbers_in r = cond r.there (some (take r.count r.values)) none
+-- values in room for sixteen, with zeros behind them
+abbrev pub padded : List ℕ → List ℕ
+padded vs = vs ++ replicate (16 - length vs) 0

@@ -3,7 +3,7 @@ use mathlib.Core.Path.{◌≡◌, refl, sym, ap, ◌∙◌}
 use mathlib.Core.Bool.{Bool, true, false, cond}
 use mathlib.Core.List.{List, [], ◌∷◌, ◌++◌, append_assoc}
 use Prim.Native.Nat.{ℕ, zero, suc, ◌+◌, ◌-◌, ◌*◌, ◌/◌, ◌%◌, ◌^◌, ◌≤◌, ◌<◌}
-use native.Mathlib.Nat.{add-zero, add-suc, pow-suc, div-lt_iff_lt-mul}
+use native.Mathlib.Nat.{add-zero, add-suc, pow-suc, one-le-pow}
 use native.Mathlib.Numerals.{add-one}
 use native.Mathlib.Omega.{arith}
 use borrow.Author.Tests.{ltb-true, ltb-false, lt-ltb, le-ltb}
@@ -80,25 +80,12 @@ places_low (suc others) n = go (ltb n 10) (places_low others (n / 10))
     go true h = omega arith
     go false h = omega arith
 
--- `others` places may still come in front of the last digit of rest
-pub record Counting (n others rest : ℕ) : Type 0 where
-  pub low : others ≤ 19
-  pub small : rest < 10 ^ suc others
-  pub counted : places 19 n ≡ (19 - others) + places others rest
-
-pub one_place : (others rest : ℕ) → rest ≤ 9 → places others rest ≡ 1
-one_place zero rest h = refl
-one_place (suc others) rest h = rw (lt-ltb rest 10 (omega arith)) refl
-
-pub counting_turn : {n : ℕ} (others : ℕ) {rest : ℕ} → 9 < rest → Counting n others rest → (0 < others) × Counting n (others - 1) (rest / 10)
-counting_turn zero {rest} h g = absurd (omega (arith, g.small))
-counting_turn (suc others) {rest} h g =
-    let back : suc others - 1 ≡ others = omega arith in
-    let one_more : places (suc others) rest ≡ suc (places others (rest / 10)) = rw (le-ltb rest 10 (omega arith)) refl in (
-      omega arith,
-      rw back (record {
-        low = omega (arith, g.low);
-        small = (div-lt_iff_lt-mul {k = 10} {x = rest} {y = 10 ^ suc others} (omega arith)).1 (rw pow-suc at g.small);
-        counted = omega (arith, g.counted, one_more, g.low);
-      }),
-    )
+-- a number from 10^k to below 10^(k + 1) has k + 1 of them
+pub places_between : (others k n : ℕ) → k ≤ others → 10 ^ k ≤ n → n < 10 * 10 ^ k → suc k ≡ places others n
+places_between zero zero n h low high = refl
+places_between zero (suc k) n h low high = absurd (omega arith)
+places_between (suc others) zero n h low high = rw (lt-ltb n 10 (omega arith)) refl
+places_between (suc others) (suc k) n h low high =
+    let power : 10 ^ suc k ≡ 10 ^ k * 10 = pow-suc 10 k in
+    let wide : 10 ≤ n = omega (arith, power, one-le-pow k 10 (omega arith)) in
+    rw (le-ltb n 10 wide) (ap suc (places_between others k (n / 10) (omega arith) (omega (arith, power)) (omega (arith, power))))

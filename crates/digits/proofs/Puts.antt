@@ -7,7 +7,8 @@ use native.Mathlib.Numerals.{add-one}
 use native.Mathlib.Omega.{arith}
 use lib.ListN.{length, take, drop, set, length-append, length-set, take-append-drop}
 use lib.Seq.{length-take-le, take_at, drop_at, drop-drop, set_split}
-use Rattle.digits.specs.Put.{Put}
+use Rattle.digits.specs.Put.{Put, Puts}
+use Rattle.digits.specs.declared.Pen.{Pen}
 
 -- the bytes before, a text, and the bytes behind it
 module _ (old : List ℕ) (at : ℕ) (l : List ℕ) (r : ℕ) (fits : at ≤ length old) (e : r ≡ at + length l) where
@@ -52,3 +53,22 @@ put_one old at b h = record { next = refl; fits = omega arith; same = length-set
 
 pub put_none : {old : List ℕ} {at : ℕ} → at ≤ length old → Put [] at old at old
 put_none {old} {at} h = record { next = sym (add-zero at); fits = h; same = refl; holds = sym (take-append-drop at old) }
+
+-- ---- by a pen
+
+pub puts_then : {l m : List ℕ} {p q r : Pen} → Puts l p q → Puts m q r → Puts (l ++ m) p r
+puts_then a b = record { put = put_then a.put b.put; same_reference = b.same_reference ∙ a.same_reference }
+
+pub puts_as : {l m : List ℕ} {p q : Pen} → l ≡ m → Puts l p q → Puts m p q
+puts_as {p = p} {q} e a = subst (λ t. Puts t p q) e a
+
+pub puts_none : {p : Pen} → p.at ≤ length p.out.now → Puts [] p p
+puts_none h = record { put = put_none h; same_reference = refl }
+
+-- the same pen, said otherwise
+pub puts_to : {l : List ℕ} {p q r : Pen} → r ≡ q → Puts l p q → Puts l p r
+puts_to {l} {p} e a = subst (λ x. Puts l p x) (sym e) a
+
+-- where the pen is laid down, the memory is as it left it
+pub put_end : {l old new last : List ℕ} {at r : ℕ} → last ≡ new → Put l at old r new → Put l at old r last
+put_end {l} {old} {at = at} {r} e p = subst (λ x. Put l at old r x) (sym e) p

@@ -9,9 +9,9 @@ use lib.Arith.{digits_div, digits_mod, mod-mul}
 use lib.Bits.{bit_and, and_block, and_mask, and_zero_r, and_le_r}
 use lib.Pow.{pow-add, pow_pos, pow_mono, split, shr-shr, mod-pow-add, mod-mod-pow, ones_lt}
 use Rattle.common.specs.Bytes.{le, AreBytes}
-use Rattle.digits.specs.Put.{Put}
-use Rattle.digits.specs.Numbers.{digit, digits, bytes_of}
-use Rattle.digits.proofs.Puts.{put_as, put_then, put_none}
+use Rattle.digits.specs.Numbers.{digit, digits}
+use Rattle.std.specs.Int.{byte_at, bytes_low_first, to_le_bytes}
+use mir.Syntax.{w128}
 use Rattle.digits.proofs.Digits.{no_branch}
 
 -- ---- digits of halves
@@ -174,47 +174,38 @@ unfolding AreBytes
 digits_bytes [] = tt
 digits_bytes (x ∷ l) = (omega (arith, no_branch (x % 16) (mod-lt x (omega arith)), mod-lt x {m = 16} (omega arith)), digits_bytes l)
 
--- the bytes of a number that bytes make up
-bytes_of_lem : (l : List ℕ) → AreBytes l → bytes_of (length l) (le l) ≡ l
+-- a number's bytes are those that it is made of
+low_bytes : (l : List ℕ) (i n : ℕ) → AreBytes l → n / 256 ^ i ≡ le l → bytes_low_first i (length l) n ≡ l
 unfolding AreBytes
-bytes_of_lem [] h = refl
-bytes_of_lem (b ∷ l) h =
+low_bytes [] i n h e = refl
+low_bytes (b ∷ l) i n h e =
     let low : (b + 256 * le l) % 256 ≡ b = omega (arith, h.0) in
     let rest : (b + 256 * le l) / 256 ≡ le l = omega (arith, h.0) in
-    rw (low, rest) (ap (λ t. b ∷ t) (bytes_of_lem l h.1))
+    let up : n / 256 ^ suc i ≡ le l = rw (pow-suc 256 i) (sym (div-div-eq-div-mul n (256 ^ i) 256) ∙ ap (λ m. m / 256) e ∙ rest) in
+    ap₂ (λ a t. a ∷ t) (here i e low) (low_bytes l (suc i) n h.1 up)
+  where
+    here : (i : ℕ) → n / 256 ^ i ≡ b + 256 * le l → (b + 256 * le l) % 256 ≡ b → byte_at i n ≡ b
+    here zero e low = ap (λ m. m % 256) (sym (div-one n) ∙ e) ∙ low
+    here (suc i) e low = ap (λ m. m % 256) e ∙ low
 
-word_bytes : (n : ℕ) → bytes_of 8 (le (digits 16 8 n)) ≡ digits 16 8 n
-word_bytes n = bytes_of_lem (digits 16 8 n) (subst AreBytes (eight_digits n) (digits_bytes (ones n)))
+le_join : (a b : List ℕ) → le (a ++ b) ≡ le b * 256 ^ length a + le a
+le_join [] b = omega arith
+le_join (x ∷ a) b =
+    let one_more : le b * (256 ^ length a * 256) ≡ le b * 256 ^ length a * 256 = sym (mul_assoc (le b) (256 ^ length a) 256) in
+    rw (le_join a b, pow-suc 256 (length a), one_more) (omega arith)
+
+bytes_join : (a b : List ℕ) → AreBytes a → AreBytes b → AreBytes (a ++ b)
+unfolding AreBytes
+bytes_join [] b h k = k
+bytes_join (x ∷ a) b h k = (h.0, bytes_join a b h.1 k)
+
+eight_bytes : (n : ℕ) → AreBytes (digits 16 8 n)
+eight_bytes n = subst AreBytes (eight_digits n) (digits_bytes (ones n))
 
 -- two words of eight digits are the sixteen of the number
-pub sixteen : (n : ℕ) → bytes_of 8 (le (digits 16 8 (n / 4294967296))) ++ bytes_of 8 (le (digits 16 8 (n % 4294967296))) ≡ digits 16 16 n
-sixteen n = ap₂ (λ a b. a ++ b) (word_bytes (n / 4294967296)) (word_bytes (n % 4294967296)) ∙ sym (digits_parted 8 8 n)
-
--- ---- putting a word
-
--- the bytes of rest are still to be put, as many as are left
-pub record Putting (n : ℕ) (old : List ℕ) (at : ℕ) (out : List ℕ) (a rest left : ℕ) : Type 0 where
-  pub so_far : List ℕ
-  pub put : Put so_far at old a out
-  pub all : so_far ++ bytes_of left rest ≡ bytes_of 8 n
-  pub place : a + left ≡ at + 8
-
-module _ {n : ℕ} {old : List ℕ} {at : ℕ} where
-  pub putting_start : at ≤ length old → Putting n old at old at n 8
-  putting_start h = record { so_far = []; put = put_none h; all = refl; place = refl }
-
-  pub putting_turn : {out new : List ℕ} {a rest b : ℕ} (left : ℕ) → 0 < left → Put (rest % 256 ∷ []) a out b new → Putting n old at out a rest left →
-      Putting n old at new b (rest / 256) (left - 1)
-  putting_turn zero l p g = absurd (omega arith)
-  putting_turn {rest = rest} (suc left) l p g =
-      let back : suc left - 1 ≡ left = omega arith in
-      rw back (record {
-        so_far = g.so_far ++ (rest % 256 ∷ []);
-        put = put_then g.put p;
-        all = append_assoc g.so_far (rest % 256 ∷ []) (bytes_of left (rest / 256)) ∙ g.all;
-        place = omega (arith, p.next, g.place);
-      })
-
-  pub putting_done : {out : List ℕ} {a rest : ℕ} (left : ℕ) → left ≤ 0 → Putting n old at out a rest left → Put (bytes_of 8 n) at old a out
-  putting_done zero l g = put_as (sym (append-nil g.so_far) ∙ g.all) g.put
-  putting_done (suc left) l g = absurd (omega arith)
+pub sixteen : (n : ℕ) → to_le_bytes w128 (le (digits 16 8 (n % 4294967296)) * 18446744073709551616 + le (digits 16 8 (n / 4294967296))) ≡ digits 16 16 n
+sixteen n =
+    let upper = digits 16 8 (n / 4294967296) in
+    let lower = digits 16 8 (n % 4294967296) in
+    let both = le lower * 18446744073709551616 + le upper in
+    low_bytes (upper ++ lower) 0 both (bytes_join upper lower (eight_bytes (n / 4294967296)) (eight_bytes (n % 4294967296))) (div-one both ∙ sym (le_join upper lower)) ∙ sym (digits_parted 8 8 n)

@@ -1,6 +1,6 @@
 -- Document 01's number for each refusal, and the answers of the rules for those of the code (FORMAT 3).
-use Rattle.std.specs.Prelude.{ℕ}
-use Rattle.rules.specs.Rule.{Stop, refused, finished, more_bytes}
+use Rattle.std.specs.Prelude.{ℕ, Result, Ok, Err}
+use Rattle.rules.specs.Rule.{Rule, gives, refuses, Stop, refused, finished, more_bytes}
 use Rattle.rules.specs.Calls.{Answer, full, stopped}
 use Rattle.error.specs.declared.Refusal.{Refusal}
 use Rattle.error.specs.declared.Refusal.TheVariants.{UnknownKind, SizeWordZero, HeaderTooSmall, HeaderTooLarge, UnknownEdition, BelowEditionMinimum, TextTooLong, NotUtf8}
@@ -31,6 +31,11 @@ number_of SumOutOfRange = 17
 number_of KindWithoutAtlas = 18
 -- request 6: 'Answers: 19'
 number_of WindowReversed = 19
+
+-- what a step of the code that reads no bytes says: an outcome, as the rules have it, or a refusal
+abbrev pub outcome : {A B : Type 0} → (A → B) → Result A Refusal → Rule B
+outcome f (Ok a) = gives (f a)
+outcome f (Err r) = refuses (number_of r)
 
 abbrev pub stop_of : Stopped → Stop
 stop_of (Refused r) = refused (number_of r)

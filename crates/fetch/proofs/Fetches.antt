@@ -10,74 +10,28 @@ use Rattle.rules.specs.Rule.{Stop, refused, Read, got, stops, read, map_read}
 use Rattle.rules.proofs.Laws.{read_map}
 use Rattle.error.specs.Number.{number_of}
 use Rattle.error.specs.declared.Refusal.{Refusal}
-use Rattle.utf16.specs.Utf16.{reported}
-use Rattle.written.specs.Written.{Puts}
-use Rattle.written.specs.declared.Written.{Written}
-use Rattle.written.specs.declared.Written.TheVariants.{Bytes, NoRoom}
-use Rattle.fetch.specs.declared.Fetched.{Fetched}
+use Rattle.std.specs.Prelude.{Result, Err}
 use Rattle.fetch.specs.declared.FetchedText.{FetchedText}
-use Rattle.fetch.specs.declared.Fetched.TheVariants.{Refused}
+use Rattle.fetch.specs.declared.described.Described.{Described}
+use Rattle.fetch.specs.Headers.{IsHeader, IsRefusal, text_in, replaced_units}
 use Rattle.layouts.specs.Table.{field_of}
 use Rattle.agilent.specs.Header.{known}
 use Rattle.metadata.specs.Metadata.{Header, open_rule}
-use Rattle.fetch.specs.Fetch.{text_of, fetch_rule, Outcome, wrote, refuse, number_of_stop, outcome_of, Fetches, replaced_by, passed_on, passed}
+use Rattle.fetch.specs.Fetch.{text_of, fetch_rule, Outcome, wrote, refuse, number_of_stop, outcome_of, Fetches, replaced_of, replaced_by, passed_on, passed}
 use Rattle.agilent.proofs.Checks.{passes, fails}
 use Rattle.agilent.proofs.HeaderLaws.{size_unknown, header_stops}
 use Rattle.metadata.proofs.Opens.{open_reads}
 
--- ---- the answers
-
--- what was written, as an outcome of Fetch
-abbrev pub outcome_in : Written → Outcome
-outcome_in (Bytes n) = wrote n
-outcome_in NoRoom = refuse 15
-
-by_room_lem : (b : Bool) (x y : Written) → outcome_in (cond b x y) ≡ cond b (outcome_in x) (outcome_in y)
-by_room_lem true x y = refl
-by_room_lem false x y = refl
-
-pub answers_written : {r : Fetched} {w : Written} {old new t : List ℕ} {n : ℕ} → outcome_of r ≡ outcome_in w → Puts w old new t → Fetches r old new (got t n)
-answers_written {old = old} {t = t} e p = record { answer = e ∙ ap outcome_in p.answer ∙ by_room_lem (leb (length t) (length old)) _ _; buffer = p.holds }
-
-pub answers_refusal : (old : List ℕ) {r : Refusal} {z : Stop} {x : Read (List ℕ)} → x ≡ stops z → number_of r ≡ number_of_stop z → Fetches (Refused r) old old x
-answers_refusal old e n = rw e (record { answer = ap refuse n; buffer = refl })
-
--- how many bytes were read does not matter
-pub answers_text : {r : Fetched} {old new t : List ℕ} {m n : ℕ} {x : Read (List ℕ)} → x ≡ got t m → Fetches r old new (got t n) → Fetches r old new x
-answers_text e f = rw e (record { answer = f.answer; buffer = f.buffer })
-
--- ---- the number beside the answer
-
--- what the decoder reports of a text that was written, or was not
-pub reports : (r : Fetched) (w : Written) {old new t : List ℕ} {n : ℕ} (count : ℕ) → Puts w old new t → Fetches r old new (got t n) → reported w count ≡ passed_on (outcome_of r) count
-reports r w {old} {t = t} count p f =
-    ap (λ (x : Written). reported x count) p.answer ∙ told (leb (length t) (length old)) ∙ sym (ap (λ (o : Outcome). passed_on o count) f.answer)
-  where
-    told : (b : Bool) → reported (cond b (Bytes (length t)) NoRoom) count ≡ passed_on (cond b (wrote (length t)) (refuse 15)) count
-    told true = refl
-    told false = refl
+-- ---- the number in the answer
 
 pub passes_none : (o : Outcome) → 0 ≡ passed_on o 0
 passes_none (wrote n) = refl
 passes_none (refuse c) = refl
 
--- by the answer that Fetch gives
-module _ (kind number : ℕ) (s : List ℕ) where
-  pub passes_on : (r : Fetched) (n : ℕ) {old new : List ℕ} → Fetches r old new (read true (fetch_rule kind number) s)
-      → n ≡ passed_on (outcome_of r) (replaced_by number (read true (open_rule kind) s)) → n ≡ passed kind number old s
-  unfolding passed
-  passes_on r n f e = e ∙ ap (λ (o : Outcome). passed_on o (replaced_by number (read true (open_rule kind) s))) f.answer
-
-  pub passes_refusal : (t : FetchedText) (old : List ℕ) {r : Refusal} {z : Stop} → (t.answer ≡ Refused r) × (t.replaced ≡ 0) → read true (fetch_rule kind number) s ≡ stops z → number_of r ≡ number_of_stop z
-      → Fetches t.answer old old (read true (fetch_rule kind number) s) × (t.replaced ≡ passed kind number old s)
-  passes_refusal t old {r} p e n =
-      let f = answers_refusal old e n in
-      (subst (λ (a : Fetched). Fetches a old old (read true (fetch_rule kind number) s)) (sym p.0) f, p.1 ∙ passes_on (Refused r) 0 f refl)
-
 -- ---- the rule
 
-abbrev pub text_in : ℕ → Header → List ℕ
-text_in number x = text_of (field_of (number - 1) x.says.edition) x.bytes
+abbrev pub text_read : ℕ → Header → List ℕ
+text_read number x = text_of (field_of (number - 1) x.says.edition) x.bytes
 
 module _ (kind number : ℕ) (s : List ℕ) where
   pub fetch_unknown : known kind ≡ false → read true (fetch_rule kind number) s ≡ stops (refused 1)
@@ -88,12 +42,41 @@ module _ (kind number : ℕ) (s : List ℕ) where
   unfolding fetch_rule read
   fetch_no_text e f = rw (passes 1 _ e, fails 16 _ f)
 
-  pub fetch_opens : known kind ≡ true → (leb 1 number && leb number 8) ≡ true → read true (fetch_rule kind number) s ≡ map_read (text_in number) (read true (open_rule kind) s)
+  pub fetch_opens : known kind ≡ true → (leb 1 number && leb number 8) ≡ true → read true (fetch_rule kind number) s ≡ map_read (text_read number) (read true (open_rule kind) s)
   unfolding fetch_rule
-  fetch_opens e f = rw (passes 1 _ e, passes 16 _ f) (read_map true (text_in number) (open_rule kind) s)
+  fetch_opens e f = rw (passes 1 _ e, passes 16 _ f) (read_map true (text_read number) (open_rule kind) s)
 
   -- as Open, of any kind
-  pub fetch_reads : (leb 1 number && leb number 8) ≡ true → read true (fetch_rule kind number) s ≡ map_read (text_in number) (read true (open_rule kind) s)
+  pub fetch_reads : (leb 1 number && leb number 8) ≡ true → read true (fetch_rule kind number) s ≡ map_read (text_read number) (read true (open_rule kind) s)
   fetch_reads f =
       by (known kind) (λ k. fetch_opens k f)
-      (λ k. fetch_unknown k ∙ sym (ap (map_read (text_in number)) (open_reads kind true s (header_stops kind true s _ (sym (size_unknown kind true s k))))))
+      (λ k. fetch_unknown k ∙ sym (ap (map_read (text_read number)) (open_reads kind true s (header_stops kind true s _ (sym (size_unknown kind true s k))))))
+
+-- ---- the answers, by what is read
+
+module _ (kind number : ℕ) (s old : List ℕ) where
+  pub refused_with : {r : Refusal} {z : Stop} → read true (fetch_rule kind number) s ≡ stops z → number_of r ≡ number_of_stop z
+      → Fetches (Err r) old old (read true (fetch_rule kind number) s) × (0 ≡ passed kind number old s)
+  unfolding passed
+  refused_with e n = rw e (record { answer = ap refuse n; buffer = refl }, refl)
+
+  module _ (k : known kind ≡ true) (i : (leb 1 number && leb number 8) ≡ true) where
+    -- as Open
+    pub opening_refused : {r : Refusal} → IsRefusal r (read true (open_rule kind) s) → Fetches (Err r) old old (read true (fetch_rule kind number) s) × (0 ≡ passed kind number old s)
+    opening_refused {r} h = go (read true (open_rule kind) s) refl h
+      where
+        go : (x : Read Header) → read true (open_rule kind) s ≡ x → IsRefusal r x → Fetches (Err r) old old (read true (fetch_rule kind number) s) × (0 ≡ passed kind number old s)
+        go (got x n) e h = absurd h
+        go (stops z) e h = refused_with (fetch_opens kind number s k i ∙ ap (map_read (text_read number)) e) h
+
+    -- the text of a header that was opened
+    pub text_written : (d : Described) {r : Result FetchedText Refusal} {new : List ℕ} → IsHeader d (read true (open_rule kind) s) → ((n : ℕ) → Fetches r old new (got (text_in (number - 1) d) n))
+        → replaced_of r ≡ passed_on (outcome_of r) (replaced_units (number - 1) d) → Fetches r old new (read true (fetch_rule kind number) s) × (replaced_of r ≡ passed kind number old s)
+    unfolding passed
+    text_written d {r} {new} h f p = go (read true (open_rule kind) s) refl h
+      where
+        go : (x : Read Header) → read true (open_rule kind) s ≡ x → IsHeader d x → Fetches r old new (read true (fetch_rule kind number) s) × (replaced_of r ≡ passed kind number old s)
+        go (stops z) e h = absurd h
+        go (got x n) e h =
+            let t : Fetches r old new (read true (fetch_rule kind number) s) = rw (fetch_opens kind number s k i ∙ ap (map_read (text_read number)) e, h.0, h.1) (f n) in
+            (t, p ∙ ap (λ (o : Outcome). passed_on o (replaced_units (number - 1) d)) t.answer ∙ rw (e, h.0, h.1) refl)

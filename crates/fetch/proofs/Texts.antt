@@ -9,16 +9,16 @@ use mir.Syntax.{w8}
 use mir.Val.{Fits}
 use lib.Dec.{ltb, eqb}
 use lib.ListN.{length, get_or, take, drop, length-take, length-drop}
-use lib.Seq.{drop-drop}
+use lib.Seq.{drop-drop, take_all}
 use borrow.Author.Tests.{eqb-true, eqb-false, leb-true, ltb-true, ltb-false}
 use Rattle.rules.specs.Rule.{gives}
 use Rattle.common.specs.Bytes.{part}
 use Rattle.agilent.proofs.HeaderLaws.{part_take}
 use Rattle.utf8.specs.Utf8.{encodes, decode}
 use Rattle.utf16.specs.Utf16.{units, utf16, utf8_of, unpaired}
-use Rattle.trim.specs.WhiteSpace.{trimmed_of}
-use Rattle.trim.specs.declared.Trimmed.{Trimmed}
-use Rattle.trim.specs.declared.Trimmed.TheVariants.{NotUtf8, At}
+use Rattle.std.specs.Prelude.{Option, None, Some}
+use Rattle.trim.specs.WhiteSpace.{at, trimmed_of}
+use Rattle.trim.specs.declared.Extent.{Extent}
 use borrow.Table.Steps.{cases as by}
 use Rattle.utf8.proofs.Decodes.{exactly}
 use Rattle.utf16.proofs.Units.{twice}
@@ -30,6 +30,10 @@ use Rattle.layouts.specs.Table.{field_of}
 use Rattle.pascal.specs.Texts.{Place, place_at, trimmed_from, pascal, text_rule, reach}
 use Rattle.metadata.specs.Metadata.{metadata_rule}
 use Rattle.fetch.specs.Fetch.{trimmed_text, text_of, replaced_in}
+use Rattle.fetch.specs.declared.described.Described.{Described}
+use Rattle.fetch.specs.Headers.{text_in, replaced_units}
+use Rattle.std.proofs.Math.Logic.{∥∥₁_elim}
+use Rattle.std.specs.Coded.{le_prop, Coded-set, coded_list, coded_ℕ}
 use Rattle.layouts.proofs.Tables.{suits, field_suits}
 use Rattle.metadata.proofs.Orderly.{Orderly, giving, refusing, outcome, then, checked}
 use Rattle.metadata.proofs.HeaderReads.{place_of, metadata_orderly}
@@ -51,7 +55,7 @@ module _ (h : List ℕ) (start : ℕ) where
   abbrev raw : List ℕ
   raw = part (start + 1) (get_or h start 0) h
 
-  trimmed_holds : (p n : ℕ) → trimmed_of raw ≡ At p n → Holds h (place_at (start + 1 + p) n) (trimmed_text (decode raw))
+  trimmed_holds : (p n : ℕ) → trimmed_of raw ≡ at p n → Holds h (place_at (start + 1 + p) n) (trimmed_text (decode raw))
   trimmed_holds p n e =
       let s = stands_at raw p n e in
       let i = inside_bounds s in
@@ -118,9 +122,9 @@ Found f h p = ((i : ℕ) → Fits w8 (get_or h i 0)) → Holds h p (stored f h)
 
 -- a text of an old edition
 module _ (f : TextField) (h : List ℕ) (start : ℕ) (old : (p : Place) → Holds h p (trimmed_text (decode (raw h start))) → Found f h p) where
-  trimmed_found : (t : Trimmed) → trimmed_of (raw h start) ≡ t → Orderly false (Found f h) (trimmed_from (start + 1) t)
-  trimmed_found NotUtf8 e = refusing
-  trimmed_found (At p n) e = giving (old (place_at (start + 1 + p) n) (trimmed_holds h start p n e))
+  trimmed_found : (t : Option Extent) → trimmed_of (raw h start) ≡ t → Orderly false (Found f h) (trimmed_from (start + 1) t)
+  trimmed_found None e = refusing
+  trimmed_found (Some x) e = giving (old (place_at (start + 1 + x.start) x.count) (trimmed_holds h start x.start x.count e))
 
   pascal_found : (width : ℕ) → Orderly false (Found f h) (pascal start width h)
   unfolding pascal
@@ -144,27 +148,38 @@ module _ (h : List ℕ) (d : ChemstationMetadata) (k : ℕ) (e : metadata_rule h
   there : Holds h (place_of d k) (stored (field_of k d.edition) h)
   there = outcome _ (each_found h) e k small
 
-  pub text_inside : get_or d.text_starts k 0 + get_or d.text_lengths k 0 ≤ length h
-  text_inside = there.inside
+module _ (x : Described) (k : ℕ) where
+  small : (i : ℕ) → Fits w8 (get_or x.bytes.now i 0)
+  small i = record { fits = x.small i }
 
+  pub text_inside : get_or x.says.text_starts k 0 + get_or x.says.text_lengths k 0 ≤ length x.bytes.now
+  text_inside = ∥∥₁_elim x.described le_prop λ e. (there x.bytes.now x.says k e small).inside
+
+  -- from its start on, and of that up to its length
   abbrev bytes : List ℕ
-  bytes = part (get_or d.text_starts k 0) (get_or d.text_starts k 0 + get_or d.text_lengths k 0 - get_or d.text_starts k 0) h
+  bytes = take (get_or x.says.text_lengths k 0) (take (length x.bytes.now - get_or x.says.text_starts k 0) (drop (get_or x.says.text_starts k 0) x.bytes.now))
 
-  taken : bytes ≡ stored (field_of k d.edition) h
-  taken = rw (add-sub_cancel_left (get_or d.text_starts k 0) (get_or d.text_lengths k 0)) there.bytes
+  pub bytes_there : bytes ≡ part (get_or x.says.text_starts k 0) (get_or x.says.text_lengths k 0) x.bytes.now
+  bytes_there =
+      let start = get_or x.says.text_starts k 0 in
+      ap (take (get_or x.says.text_lengths k 0)) (take_all (length x.bytes.now - start) (drop start x.bytes.now) (omega (arith, length-drop start x.bytes.now)))
 
-  pub new_text : 102 < d.edition → utf8_of bytes ≡ text_of (field_of k d.edition) h
-  new_text l = ap utf8_of taken ∙ as_units k d.edition h l
+  taken : bytes ≡ stored (field_of k x.says.edition) x.bytes.now
+  taken = bytes_there ∙ ∥∥₁_elim x.described (Coded-set (coded_list coded_ℕ) _ _) λ e. (there x.bytes.now x.says k e small).bytes
 
-  pub new_units : 102 < d.edition → unpaired (units bytes) ≡ replaced_in (field_of k d.edition) h
-  new_units l = ap (λ (bs : List ℕ). unpaired (units bs)) taken ∙ units_replaced k d.edition h l
+  pub new_text : 102 < x.says.edition → utf8_of bytes ≡ text_in k x
+  new_text l = ap utf8_of taken ∙ as_units k x.says.edition x.bytes.now l
 
-  pub old_text : d.edition ≤ 102 → bytes ≡ text_of (field_of k d.edition) h
-  old_text l = taken ∙ as_it_is k d.edition h l
+  pub new_units : 102 < x.says.edition → unpaired (units bytes) ≡ replaced_units k x
+  new_units l = ap (λ (bs : List ℕ). unpaired (units bs)) taken ∙ units_replaced k x.says.edition x.bytes.now l
+
+  pub old_text : x.says.edition ≤ 102 → bytes ≡ text_in k x
+  old_text l = taken ∙ as_it_is k x.says.edition x.bytes.now l
 
   -- no byte of a header makes more than two of a text
-  pub text_bounded : length (text_of (field_of k d.edition) h) ≤ 2 * get_or d.text_lengths k 0
+  pub text_bounded : length (text_in k x) ≤ 2 * get_or x.says.text_lengths k 0
   text_bounded =
-      let n = length-take (get_or d.text_starts k 0 + get_or d.text_lengths k 0 - get_or d.text_starts k 0) (drop (get_or d.text_starts k 0) h) in
-      by (ltb 102 d.edition) (λ t. omega (arith, n, ap length (new_text (ltb-true 102 d.edition t)), twice bytes))
-      λ t. omega (arith, n, ap length (old_text (ltb-false 102 d.edition t)))
+      let start = get_or x.says.text_starts k 0 in
+      let n = length-take (get_or x.says.text_lengths k 0) (take (length x.bytes.now - start) (drop start x.bytes.now)) in
+      by (ltb 102 x.says.edition) (λ t. omega (arith, n, ap length (new_text (ltb-true 102 x.says.edition t)), twice bytes))
+      λ t. omega (arith, n, ap length (old_text (ltb-false 102 x.says.edition t)))

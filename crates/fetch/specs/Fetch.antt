@@ -1,7 +1,8 @@
 -- Fetch a text (FORMAT 4.5).
-use Rattle.std.specs.Prelude.{◌≡◌, true, cond, ◌&&◌, List, [], ℕ, ◌+◌, ◌-◌, ◌*◌, leb, length, get_or}
+use Rattle.std.specs.Prelude.{Result, Ok, Err, ◌≡◌, true, cond, ◌&&◌, List, [], ℕ, ◌+◌, ◌-◌, ◌*◌, leb, length, get_or}
 use Rattle.rules.specs.Rule.{Rule, gives, ◌>>=◌, ◌>>◌, Stop, refused, finished, more_bytes, Read, got, stops, read}
 use Rattle.error.specs.Number.{number_of}
+use Rattle.error.specs.declared.Refusal.{Refusal}
 use Rattle.common.specs.Bytes.{part}
 use Rattle.utf8.specs.Utf8.{encodes, Decoded, bad, text, decode}
 use Rattle.trim.specs.WhiteSpace.{trim}
@@ -12,8 +13,7 @@ use Rattle.agilent.specs.Header.{check, known}
 use Rattle.metadata.specs.Metadata.{Header, open_rule}
 use Rattle.pascal.specs.declared.TextField.{TextField}
 use Rattle.pascal.specs.declared.TextField.TheVariants.{Absent, Pascal, PascalToEnd, Utf16}
-use Rattle.fetch.specs.declared.Fetched.{Fetched}
-use Rattle.fetch.specs.declared.Fetched.TheVariants.{Text, Refused}
+use Rattle.fetch.specs.declared.FetchedText.{FetchedText}
 
 -- the UTF-8 of the scalars without white space at both ends
 abbrev pub trimmed_text : Decoded → List ℕ
@@ -56,12 +56,12 @@ abbrev pub held_after : List ℕ → Read (List ℕ) → List ℕ
 held_after old (got t n) = held old t
 held_after old (stops z) = old
 
-abbrev pub outcome_of : Fetched → Outcome
-outcome_of (Text n) = wrote n
-outcome_of (Refused r) = refuse (number_of r)
+abbrev pub outcome_of : Result FetchedText Refusal → Outcome
+outcome_of (Ok t) = wrote t.bytes
+outcome_of (Err r) = refuse (number_of r)
 
 -- the answer r, and the lent buffer before and after, by what the rule reads
-pub record Fetches (r : Fetched) (old new : List ℕ) (x : Read (List ℕ)) : Type 0 where
+pub record Fetches (r : Result FetchedText Refusal) (old new : List ℕ) (x : Read (List ℕ)) : Type 0 where
   pub answer : outcome_of r ≡ fetched (length old) x
   pub buffer : new ≡ held_after old x
 
@@ -84,6 +84,11 @@ abbrev pub passed_on : Outcome → ℕ → ℕ
 passed_on (wrote n) count = count
 passed_on (refuse c) count = 0
 
--- the number beside Fetch's answer, by the lent buffer before and the bytes of the file
+-- the number in Fetch's answer
+abbrev pub replaced_of : Result FetchedText Refusal → ℕ
+replaced_of (Ok t) = t.replaced
+replaced_of (Err r) = 0
+
+-- it, by the lent buffer before and the bytes of the file
 unfoldable pub passed : ℕ → ℕ → List ℕ → List ℕ → ℕ
 passed kind number old s = passed_on (fetched (length old) (read true (fetch_rule kind number) s)) (replaced_by number (read true (open_rule kind) s))

@@ -1,55 +1,23 @@
 // Fetch a text: its UTF-8, straight from the header's bytes to the lent buffer, through no other array.
 #![tactic(auto)]
 
-ghost use Rattle.std.specs.Prelude.{◌≡◌, true, ◌&&◌, List, ℕ, ◌≤◌, ◌<◌, leb, length, get_or};
-ghost use Rattle.rules.specs.Rule.{gives, finished, got, read};
+ghost use Rattle.std.specs.Prelude.{◌≡◌, true};
+ghost use Rattle.rules.specs.Rule.{finished, read};
 ghost use Rattle.error.specs.Number.{number_of, stop_of};
-ghost use Rattle.common.specs.Bytes.{part};
-ghost use Rattle.utf16.specs.Utf16.{units, utf8_of, unpaired};
-ghost use Rattle.written.specs.Written.{Puts};
-ghost use Rattle.layouts.specs.Table.{field_of};
-ghost use Rattle.metadata.specs.Metadata.{metadata_rule};
-ghost use Rattle.fetch.specs.declared.Fetched.TheVariants.{Refused};
-ghost use Rattle.fetch.specs.Fetch.{text_of, fetch_rule, number_of_stop, outcome_of, Fetches, replaced_in, passed_on, passed};
+ghost use Rattle.fetch.specs.Fetch.{fetch_rule, number_of_stop, Fetches, replaced_of, passed};
 
+mod described;
+mod stored;
+
+pub use described::Described;
 use error::{Refusal, Stopped};
-use metadata::{ChemstationMetadata, Opened, open_header};
-use utf16::decode_utf16;
-use written::{Written, copy_text};
+pub use stored::Stored;
 
-// What Fetch a text answers.
-#[derive(Clone, Copy)]
-pub enum Fetched {
-    // its length in bytes
-    Text(usize),
-    Refused(Refusal),
-}
-
-// The answer, and beside it how many units of the text were replaced by U+FFFD: 0 where it is refused.
+// A text that was fetched: its length in bytes, and how many units of it were replaced by U+FFFD.
 #[derive(Clone, Copy)]
 pub struct FetchedText {
-    pub answer: Fetched,
+    pub bytes: usize,
     pub replaced: usize,
-}
-
-// A refusal passes 0.
-fn refused(r: Refusal) -> FetchedText
-    ensures { (result.answer ≡ Refused r) × (result.replaced ≡ 0) }
-{
-    FetchedText {
-        answer: Fetched::Refused(r),
-        replaced: 0,
-    }
-}
-
-// Whether n is from 1 to the most.
-fn in_range(most: u8, n: u8) -> bool
-    ensures { result ≡ (leb 1 n && leb n most) }
-{
-    if n < 1 {
-        return false;
-    }
-    n <= most
 }
 
 // A header that may not go on is refused: told last, a field that is cut is 14, and no header is 'finished'.
@@ -64,92 +32,17 @@ pub fn refusal_of(z: Stopped) -> Refusal
     }
 }
 
-// What was written, as an answer of Fetch.
-fn answer_of(w: Written) -> Fetched
-    ensures { (old new t : List ℕ) (n : ℕ) → Puts w old new t → Fetches result old new (got t n) }
+// A text by its number, from the bytes of a whole file.
+pub fn fetch_text(kind: u8, number: u8, s: &[u8], out: &mut [u8]) -> Result<FetchedText, Refusal>
+    ensures text { Fetches result out.old out.new (read true (fetch_rule kind number) s.now) }
+    ensures replaced { replaced_of result ≡ passed kind number out.old s.now }
 {
-    match w {
-        Written::Bytes(n) => Fetched::Text(n),
-        Written::NoRoom => Fetched::Refused(Refusal::LentLength),
+    if !(1..=6).contains(&kind) {
+        return Err(Refusal::UnknownKind);
     }
-}
-
-// Where a text starts, by its number less one.
-fn start_of(d: ChemstationMetadata, k: usize) -> usize
-    requires { k < 8 }
-    ensures { result ≡ get_or d.text_starts k 0 }
-{
-    let starts = d.text_starts;
-    starts[k]
-}
-
-// Its length in the header, in bytes.
-pub fn length_of(d: ChemstationMetadata, k: usize) -> usize
-    requires { k < 8 }
-    ensures { result ≡ get_or d.text_lengths k 0 }
-{
-    let lengths = d.text_lengths;
-    lengths[k]
-}
-
-// The bytes of a text as they stand in the header h that says d, by the text's number less one.
-pub fn text_bytes(d: ChemstationMetadata, k: usize, h: &[u8]) -> &[u8]
-    requires { (k < 8) × (metadata_rule h.now ≡ gives d) }
-    ensures old { d.edition ≤ 102 → result.now ≡ text_of (field_of k d.edition) h.now }
-    ensures new { 102 < d.edition → utf8_of result.now ≡ text_of (field_of k d.edition) h.now }
-    ensures count { 102 < d.edition → unpaired (units result.now) ≡ replaced_in (field_of k d.edition) h.now }
-    ensures there { result.now ≡ part (get_or d.text_starts k 0) (get_or d.text_lengths k 0) h.now }
-{
-    let at = start_of(d, k);
-    let end = at + length_of(d, k);
-    &h[at..end]
-}
-
-// The text of a number less one, of a header h that says d.
-fn fetch_from(d: ChemstationMetadata, k: usize, h: &[u8], out: &mut [u8]) -> FetchedText
-    requires { (k < 8) × (metadata_rule h.now ≡ gives d) }
-    ensures text { Fetches result.answer out.old out.new (got (text_of (field_of k d.edition) h.now) (length h.now)) }
-    ensures replaced { result.replaced ≡ passed_on (outcome_of result.answer) (replaced_in (field_of k d.edition) h.now) }
-{
-    let bytes = text_bytes(d, k, h);
-    // the edition tells the encoding; a text that it lacks is empty in both
-    if 102 < d.edition {
-        let t = decode_utf16(bytes, out);
-        let written = t.answer;
-        return FetchedText {
-            answer: answer_of(written),
-            replaced: t.replaced,
-        };
+    if !(1..=8).contains(&number) {
+        return Err(Refusal::UnknownText);
     }
-    FetchedText {
-        answer: answer_of(copy_text(bytes, out)),
-        replaced: 0,
-    }
-}
-
-// A text by its number, from the bytes of a whole file, and how many of its units were replaced.
-pub fn fetch_text(kind: u8, number: u8, s: &[u8], out: &mut [u8]) -> FetchedText
-    ensures text { Fetches result.answer out.old out.new (read true (fetch_rule kind number) s.now) }
-    ensures replaced { result.replaced ≡ passed kind number out.old s.now }
-{
-    if !in_range(6, kind) {
-        return refused(Refusal::UnknownKind);
-    }
-    if !in_range(8, number) {
-        return refused(Refusal::UnknownText);
-    }
-    let o = open_header(kind, s, true);
-    let answer = o.answer;
-    match answer {
-        Opened::Stopped(z) => refused(refusal_of(z)),
-        Opened::Header {
-            size,
-            scans: _,
-            time_step: _,
-        } => {
-            let d = o.metadata;
-            let k = (number - 1) as usize;
-            fetch_from(d, k, &s[..size], out)
-        }
-    }
+    let header = Described::open(kind, s)?;
+    header.text(number as usize - 1).write(out)
 }

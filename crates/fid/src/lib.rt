@@ -8,10 +8,9 @@ ghost use Rattle.streams.specs.Told.{told};
 ghost use Rattle.streams.specs.Next.{sum_of, item_of, stepped, rule_by, answer_of};
 ghost use Rattle.fid.specs.Fid.{fid_made, fid_rule};
 
-use common::{be_i16, be_i32, be_u16};
-use error::{cut, ended};
-use floats::{f64_from_i16, f64_from_i32, f64_from_u16};
-use streams::{ChemstationFidState, Next, State, trace_point};
+use common::Number;
+use error::{Stopped, lacking};
+use streams::{ChemstationFidState, Given, Record, State};
 
 // Bytes of a delta, and of a restart: its mark, high and low.
 const DELTA: usize = 2;
@@ -19,55 +18,57 @@ const DELTA: usize = 2;
 const RESTART: usize = 8;
 
 // The record of a value, and the state after it.
-fn fid_given(st: ChemstationFidState, slope: f64, value: f64, n: usize) -> Next
+fn fid_given(st: ChemstationFidState, slope: f64, value: f64, n: usize) -> Result<Given, Stopped>
     ensures { answer_of result ≡ got (item_of (fid_made st) (record { slope = slope; value = value })) n }
 {
     let cur_time = st.cur_time + st.time_step;
-    let record = trace_point(cur_time, value, st.mult_correction, st.offset_correction);
+    let record = Record::trace(cur_time, value, st.mult_correction, st.offset_correction);
     let state = ChemstationFidState {
         cur_time,
         cur_delta: slope,
         cur_intensity: value,
-        time_step: st.time_step,
-        mult_correction: st.mult_correction,
-        offset_correction: st.offset_correction,
+        ..st
     };
-    Next::Given(record, State::Fid(state), n)
+    Ok(Given {
+        record,
+        state: State::Fid(state),
+        bytes: n,
+    })
 }
 
 // A restart: high × 65534 + low, slope 0.
-fn fid_restart(st: ChemstationFidState, high: i32, low: u16) -> Next
+fn fid_restart(st: ChemstationFidState, high: i32, low: u16) -> Result<Given, Stopped>
     ensures { answer_of result ≡ got (stepped (sum_of (State.Fid st)) (told (fid_made st) (restarts high low ∷ []))) 8 }
 {
-    let intensity = f64_from_i32(high) * 65534.0 + f64_from_u16(low);
+    let intensity = f64::from(high) * 65534.0 + f64::from(low);
     fid_given(st, 0.0, intensity, RESTART)
 }
 
 // A delta: slope += v, value += slope.
-fn fid_slope(st: ChemstationFidState, v: i16) -> Next
+fn fid_slope(st: ChemstationFidState, v: i16) -> Result<Given, Stopped>
     ensures { answer_of result ≡ got (stepped (sum_of (State.Fid st)) (told (fid_made st) (slopes v ∷ []))) 2 }
 {
-    let delta = st.cur_delta + f64_from_i16(v);
+    let delta = st.cur_delta + f64::from(v);
     let intensity = st.cur_intensity + delta;
     fid_given(st, delta, intensity, DELTA)
 }
 
 // The next record of FID.
-pub fn fid_next(st: ChemstationFidState, s: &[u8], last: bool) -> Next
+pub fn fid_next(st: ChemstationFidState, s: &[u8], last: bool) -> Result<Given, Stopped>
     ensures { answer_of result ≡ read last (rule_by (State.Fid st) (fid_rule st)) s.now }
 {
-    if s.len() == 0 {
-        return Next::Stopped(ended(last));
+    if s.is_empty() {
+        return Err(lacking(last, true));
     }
     if s.len() < DELTA {
-        return Next::Stopped(cut(last));
+        return Err(lacking(last, false));
     }
-    let v = be_i16(s, 0);
+    let v = i16::be_at(s, 0);
     if v != 32767 {
         return fid_slope(st, v);
     }
     if s.len() < RESTART {
-        return Next::Stopped(cut(last));
+        return Err(lacking(last, false));
     }
-    fid_restart(st, be_i32(s, 2), be_u16(s, 6))
+    fid_restart(st, i32::be_at(s, 2), u16::be_at(s, 6))
 }

@@ -8,8 +8,9 @@ use lib.Ieee.Fits.{down_pos}
 use lib.Ieee.Exact.{HasValue}
 use lib.Ieee.Back.{round_whole}
 use lib.Ieee.Scale.{round_same}
+use Rattle.std.proofs.lemmas.Int.{unsigned_abs-mul}
 use Rattle.floats.specs.Wholes.{IsWhole, negative, ExactOn}
-use Rattle.floats.proofs.Sizes.{signed, signed_is, signed_neg, signed_times, nat_abs_times_lem}
+use Rattle.floats.proofs.Sizes.{signed, signed_is, signed_neg, signed_times}
 
 of_int_is : (f : Format) (z : ℤ) → of_int f z ≡ round f (negative z) (nat_abs z) 1
 unfolding of_int
@@ -124,7 +125,7 @@ exactly {f} {x} {y} {a} {b} p q =
     record {
       sums = λ h. record { equal = plus; small = h };
       differences = λ h. record { equal = unfold sub in add_parts f u (neg_parts v) ∙ sum_is f a (not (negative b)) (nat_abs b) ∙ ap (λ (z : ℤ). of_int f (a +ℤ z)) (signed_neg b); small = h };
-      products = λ h n. record { equal = mul_parts f u v ∙ round_signed f s (nat_abs a * nat_abs b) (λ t. omega (arith, nat_abs_times_lem a b, n t)) ∙ ap (of_int f) (signed_times a b); small = h };
+      products = λ h n. record { equal = mul_parts f u v ∙ round_signed f s (nat_abs a * nat_abs b) (λ t. omega (arith, unsigned_abs-mul a b, n t)) ∙ ap (of_int f) (signed_times a b); small = h };
       cancels = λ e. plus ∙ ap (of_int f) e ∙ zero_is f;
-      minus_zero = λ e t. mul_parts f u v ∙ rw (← nat_abs_times_lem a b, e, is_true s t) (round_zero f true);
+      minus_zero = λ e t. mul_parts f u v ∙ rw (← unsigned_abs-mul a b, e, is_true s t) (round_zero f true);
     }

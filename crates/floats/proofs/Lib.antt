@@ -1,5 +1,4 @@
 -- What the proofs share, and the laws of exact sums that a crate above cites.
-mod Patterns
 mod Quotient
 pub mod Sizes
 pub mod Exact

@@ -2,8 +2,9 @@
 use Rattle.std.proofs.Common.{◌≡◌, ℕ, zero, suc, ◌+◌, ◌-◌, ◌*◌, ◌^◌, ◌<◌, ◌≤◌, false, T, List, [], ◌∷◌, length, ℤ, pos, negsuc, ◌+ℤ◌, ◌*ℤ◌, nat_abs, refl, suc-le-suc, le_trans, add-zero, add-suc, suc-mul, mul-le-mul, suc-add, mul-zero, mul-suc, mul-add, arith}
 use mathlib.Core.List.{foldl}
 use lib.Ieee.{Float, Format, binary64, prec, unlike, add, of_int}
+use Rattle.std.proofs.lemmas.Int.{unsigned_abs-mul}
 use Rattle.floats.specs.Wholes.{IsWhole, negative, ExactSums, floats, doubles, wholes, Sum, flat, sloped, added, restarted, Bounded}
-use Rattle.floats.proofs.Sizes.{nat_abs_add_lem, nat_abs_times_lem}
+use Rattle.floats.proofs.Sizes.{nat_abs_add_lem}
 use Rattle.floats.proofs.Exact.{whole_of_lem, whole_value, zero_is, exactly}
 
 -- ---- added up
@@ -61,14 +62,14 @@ sloping_within m n h l = let q : n * suc n ≤ 524288 * 524289 = mul-le-mul l (s
 -- a restart, by an i32 and a u16, is a start
 pub restart : {d : ℕ} (high : ℤ) (low : ℕ) → nat_abs high ≤ 2 ^ 31 → low < 65536 → Sloping binary64 (2 ^ 47) d (restarted doubles high low) (restarted wholes high low) 0
 restart high low h l =
-    let t : nat_abs (high *ℤ pos 65534) ≡ nat_abs high * 65534 = nat_abs_times_lem high (pos 65534) in
+    let t : nat_abs (high *ℤ pos 65534) ≡ nat_abs high * 65534 = unsigned_abs-mul high (pos 65534) in
     let u = nat_abs_add_lem (high *ℤ pos 65534) (pos low) in
     let p = (exactly (whole_of_lem binary64 high (omega arith)) (whole_of_lem binary64 (pos 65534) (omega arith))).products (omega arith) (some high) in
     sloping_start (omega arith) ((exactly p (whole_of_lem binary64 (pos low) (omega arith))).sums (omega arith)).equal
   where
     some : (a : ℤ) → T (unlike (negative a) false) → 0 < nat_abs (a *ℤ pos 65534)
     some (pos a) t = absurd t
-    some (negsuc a) t = omega (arith, nat_abs_times_lem (negsuc a) (pos 65534))
+    some (negsuc a) t = omega (arith, unsigned_abs-mul (negsuc a) (pos 65534))
 
 -- ---- a list of deltas
 

@@ -1,5 +1,5 @@
 -- Integers by sign and size.
-use Rattle.std.proofs.Common.{◌≡◌, ℕ, zero, suc, ◌+◌, ◌-◌, ◌*◌, ◌≤◌, Bool, true, false, cond, not, ltb, ℤ, pos, negsuc, ◌+ℤ◌, ◌*ℤ◌, neg_ℤ, nat_abs, sym, refl, ap, ◌∙◌, le_refl, arith}
+use Rattle.std.proofs.Common.{◌≡◌, ℕ, zero, suc, ◌+◌, ◌-◌, ◌*◌, ◌≤◌, Bool, true, false, cond, not, ltb, ℤ, pos, negsuc, ◌+ℤ◌, ◌*ℤ◌, neg_ℤ, nat_abs, refl, le_refl, arith}
 use lib.IntN.{sub_ℕ}
 use lib.Ieee.{unlike}
 use Rattle.floats.specs.Wholes.{negative}
@@ -26,9 +26,6 @@ signed_times (pos a) (pos b) = refl
 signed_times (pos a) (negsuc b) = refl
 signed_times (negsuc a) (pos b) = refl
 signed_times (negsuc a) (negsuc b) = refl
-
-pub nat_abs_times_lem : (a b : ℤ) → nat_abs (a *ℤ b) ≡ nat_abs a * nat_abs b
-nat_abs_times_lem a b = ap nat_abs (sym (signed_times a b)) ∙ nat_abs_signed_lem (unlike (negative a) (negative b)) (nat_abs a * nat_abs b)
 
 nat_abs_sub_lem : (a b : ℕ) → nat_abs (sub_ℕ a (suc b)) ≤ a + suc b
 nat_abs_sub_lem a b = go (ltb a (suc b))

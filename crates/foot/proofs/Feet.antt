@@ -27,9 +27,8 @@ use Rattle.streams.specs.declared.Mode.{Mode}
 use Rattle.modes.specs.Modes.{open_by, begins_by, start_by}
 use Rattle.whole.specs.Whole.{Added, whole_rule, at_open, Exact, AllExact}
 use Rattle.demand3.specs.Demand3.{whole_start, Demand3Holds}
-use Rattle.sums.specs.Sums.{counts, whole_of, in64, amount, out_of_range, plus, total_from, TotalsAreSums}
-use Rattle.sums.specs.declared.Total.{Total}
-use Rattle.sums.specs.declared.Total.TheVariants.{Absent, Amount, Refused}
+use Rattle.std.specs.Prelude.{Some, None, Ok, Err}
+use Rattle.sums.specs.Sums.{AnyTotal, counts, whole_of, in64, amount, out_of_range, plus, total_from, TotalsAreSums}
 use Rattle.lines.specs.Lines.{total_line, end_line}
 use Rattle.runlog.specs.Runs.{lines_of, unscaled}
 use Rattle.runlog.specs.Log.{in_buffer, Reads, one_more, no_more, header_text, first_total, foot_text, LogOf, opened_run}
@@ -102,29 +101,29 @@ is_false true t = absurd t
 is_false false t = refl
 
 -- one more: its double counts exactly where it is below 2^53 in size, and as itself
-one_added : TotalsAreSums → (t : Total) (v : Float) (w : Added) → IsWhole binary64 v w.value → plus t v ≡ plus_added t w
-one_added s Absent v w i = refl
-one_added s (Refused c) v w i = refl
-one_added s (Amount a) v w i =
+one_added : TotalsAreSums → (t : AnyTotal) (v : Float) (w : Added) → IsWhole binary64 v w.value → plus t v ≡ plus_added t w
+one_added s None v w i = refl
+one_added s (Some (Err c)) v w i = refl
+one_added s (Some (Ok a)) v w i =
     by (ltb (nat_abs w.value) (2 ^ 53))
     (λ t. let p = s.wholes v w.value i (ltb-true (nat_abs w.value) (2 ^ 53) t) in rw (t, is_true (counts v) p.0, p.1) refl)
     (λ t.
     let n : nat_abs w.value ≡ 2 ^ 53 = omega (arith, i.small, ltb-false (nat_abs w.value) (2 ^ 53) t) in
     rw (t, is_false (counts v) (s.large v w.value i n)) refl)
 
-pub all_added : TotalsAreSums → (t : Total) (rs : List Record) (ws : List Added) → AllExact rs ws → AllWithin ws → total_from t (unscaled rs) ≡ total_added t ws
+pub all_added : TotalsAreSums → (t : AnyTotal) (rs : List Record) (ws : List Added) → AllExact rs ws → AllWithin ws → total_from t (unscaled rs) ≡ total_added t ws
 all_added s t [] [] e h = refl
 all_added s t [] (w ∷ ws) e h = absurd e
 all_added s t (r ∷ rs) [] e h = absurd e
 all_added s t (r ∷ rs) (w ∷ ws) e h = ap (λ x. total_from x (unscaled rs)) (one_added s t (unscaled_of r) w (e.0 h.0)) ∙ all_added s (plus_added t w) rs ws e.1 h.1
 
-first_total_lem : (kind : ℕ) → ¬ (kind ≡ 6) → first_total kind ≡ Amount (pos 0)
+first_total_lem : (kind : ℕ) → ¬ (kind ≡ 6) → first_total kind ≡ Some (Ok (pos 0))
 first_total_lem kind d = rw (ne_eqb kind 6 d) refl
 
 pub sum : TotalsAreSums → Demand3Holds → (mode : Mode) (size kind : ℕ) (F : List ℕ) → AreBytes F → ¬ (kind ≡ 6) → (l : OpenedLog mode size kind F) → AllWithin (values_of l) →
-    total_from (first_total kind) (unscaled l.records) ≡ total_added (Amount (pos 0)) (values_of l)
+    total_from (first_total kind) (unscaled l.records) ≡ total_added (Some (Ok (pos 0))) (values_of l)
 sum s demand mode size kind F b d l h =
-    ap (λ t. total_from t (unscaled l.records)) (first_total_lem kind d) ∙ all_added s (Amount (pos 0)) l.records (values_of l) (exact demand b l) h
+    ap (λ t. total_from t (unscaled l.records)) (first_total_lem kind d) ∙ all_added s (Some (Ok (pos 0))) l.records (values_of l) (exact demand b l) h
 
 pub foot : TotalsAreSums → Demand3Holds → (mode : Mode) (size kind : ℕ) (F : List ℕ) → AreBytes F → ¬ (kind ≡ 6) → (l : OpenedLog mode size kind F) → AllWithin (values_of l) → LogOf mode size kind F l.answer (text_added l)
 foot s demand mode size kind F b d l h =
@@ -133,7 +132,7 @@ foot s demand mode size kind F b d l h =
 
 -- ---- kind 6
 
-absent_stays : (vs : List Float) → total_from Absent vs ≡ Absent
+absent_stays : (vs : List Float) → total_from None vs ≡ None
 absent_stays [] = refl
 absent_stays (v ∷ vs) = absent_stays vs
 
@@ -148,14 +147,14 @@ refused_stays : (ws : List Added) → total_added out_of_range ws ≡ out_of_ran
 refused_stays [] = refl
 refused_stays (w ∷ ws) = refused_stays ws
 
-amount≢out : {z : ℤ} → ¬ (Amount z ≡ out_of_range)
+amount≢out : {z : ℤ} → ¬ (Some (Ok z) ≡ out_of_range)
 amount≢out e = false≢true cc
 
-pub number : (a z : ℤ) (ws : List Added) → total_added (Amount a) ws ≡ Amount z → z ≡ sum_added a ws
+pub number : (a z : ℤ) (ws : List Added) → total_added (Some (Ok a)) ws ≡ Some (Ok z) → z ≡ sum_added a ws
 number a z [] e = cc
 number a z (w ∷ ws) e = go (ltb (nat_abs w.value) (2 ^ 53)) (in64 (a +ℤ w.value)) (λ f. number (a +ℤ w.value) z ws f) e
   where
-    go : (b c : Bool) → (total_added (Amount (a +ℤ w.value)) ws ≡ Amount z → z ≡ sum_added (a +ℤ w.value) ws) → total_added (cond b (cond c (Amount (a +ℤ w.value)) out_of_range) out_of_range) ws ≡ Amount z → z ≡ sum_added (a +ℤ w.value) ws
+    go : (b c : Bool) → (total_added (Some (Ok (a +ℤ w.value))) ws ≡ Some (Ok z) → z ≡ sum_added (a +ℤ w.value) ws) → total_added (cond b (cond c (Some (Ok (a +ℤ w.value))) out_of_range) out_of_range) ws ≡ Some (Ok z) → z ≡ sum_added (a +ℤ w.value) ws
     go true true onward f = onward f
     go true false onward f = absurd (amount≢out (sym f ∙ refused_stays ws))
     go false c onward f = absurd (amount≢out (sym f ∙ refused_stays ws))

@@ -1,5 +1,5 @@
 -- Request 1 within demand 3's bounds: the number at the foot of a log is the sum of the added-up values, in whole numbers never rounded.
-use Rattle.std.specs.Prelude.{◌≡◌, cond, ℕ, ◌-◌, ◌^◌, ltb, ℤ, pos, negsuc, nat_abs, ◌+ℤ◌, length, drop, replicate}
+use Rattle.std.specs.Prelude.{◌≡◌, cond, ℕ, ◌-◌, ◌^◌, ltb, ℤ, pos, negsuc, nat_abs, ◌+ℤ◌, length, drop, replicate, Some, None, Ok, Err}
 use mathlib.Core.List.{List, [], ◌∷◌, ◌++◌, foldl, map}
 use Prim.Native.String.{String}
 use Rattle.rules.specs.Rule.{Stop, finished, got, stops}
@@ -12,9 +12,7 @@ use Rattle.streams.specs.declared.Mode.TheVariants.{Plain}
 use Rattle.modes.specs.Modes.{open_by, begins_by}
 use Rattle.whole.specs.Whole.{Added, whole_rule, Within, AllExact}
 use Rattle.demand3.specs.Demand3.{whole_start}
-use Rattle.sums.specs.Sums.{out_of_range, amount, total_from}
-use Rattle.sums.specs.declared.Total.{Total}
-use Rattle.sums.specs.declared.Total.TheVariants.{Absent, Amount, Refused}
+use Rattle.sums.specs.Sums.{AnyTotal, out_of_range, amount, total_from}
 use Rattle.lines.specs.Lines.{total_line, end_line}
 use Rattle.lines.specs.Left.{ascii}
 use Rattle.runlog.specs.Runs.{lines_of, unscaled}
@@ -34,12 +32,12 @@ AllWithin (w ∷ ws) = Within w.state w.deltas × AllWithin ws
 -- ---- their total
 
 -- one more: 17 'where a value's size is 2^53 or more, or the sum after some record leaves 64 bits'
-abbrev pub plus_added : Total → Added → Total
-plus_added Absent w = Absent
-plus_added (Amount a) w = cond (ltb (nat_abs w.value) (2 ^ 53)) (amount (a +ℤ w.value)) out_of_range
-plus_added (Refused c) w = Refused c
+abbrev pub plus_added : AnyTotal → Added → AnyTotal
+plus_added None w = None
+plus_added (Some (Ok a)) w = cond (ltb (nat_abs w.value) (2 ^ 53)) (amount (a +ℤ w.value)) out_of_range
+plus_added (Some (Err c)) w = Some (Err c)
 
-abbrev pub total_added : Total → List Added → Total
+abbrev pub total_added : AnyTotal → List Added → AnyTotal
 total_added t ws = foldl plus_added t ws
 
 abbrev pub sum_added : ℤ → List Added → ℤ
@@ -62,7 +60,7 @@ values_of {mode} {size} {kind} {F} l = added_up mode kind (length l.records) F
 
 -- its text, with what those values add up to
 abbrev pub text_added : {mode : Mode} {size kind : ℕ} {F : List ℕ} → OpenedLog mode size kind F → List ℕ
-text_added l = header_text l.header ++ (lines_of l.records ++ (total_line (total_added (Amount (pos 0)) (values_of l)) ++ end_line l.answer (length l.records)))
+text_added l = header_text l.header ++ (lines_of l.records ++ (total_line (total_added (Some (Ok (pos 0))) (values_of l)) ++ end_line l.answer (length l.records)))
 
 -- document 01's printed run: '512 zero bytes but for byte 251 = 2 and 267 = 2, then 00 05 00 02', and its log with request 1's `t 17`
 unfoldable pub printed_run : List ℕ
@@ -72,8 +70,8 @@ unfoldable pub printed_log : List ℕ
 printed_log = ascii "h 2 512\nr 0000000000000000 - 4014000000000000 4014000000000000\nr 3FC999999999999A - 4028000000000000 4028000000000000\nt 17\ne 0 2\n"
 
 -- 0, a negative one, both ends of 64 bits, a refused one, and none
-abbrev pub some_totals : List Total
-some_totals = Amount (pos 0) ∷ Amount (negsuc 16) ∷ Amount (pos (2 ^ 63 - 1)) ∷ Amount (negsuc (2 ^ 63 - 1)) ∷ out_of_range ∷ Absent ∷ []
+abbrev pub some_totals : List AnyTotal
+some_totals = Some (Ok (pos 0)) ∷ Some (Ok (negsuc 16)) ∷ Some (Ok (pos (2 ^ 63 - 1))) ∷ Some (Ok (negsuc (2 ^ 63 - 1))) ∷ out_of_range ∷ None ∷ []
 
 abbrev pub some_lines : List String
 some_lines = "t 0\n" ∷ "t -17\n" ∷ "t 9223372036854775807\n" ∷ "t -9223372036854775808\n" ∷ "t -\n" ∷ "" ∷ []
@@ -84,11 +82,11 @@ pub record FootOfLog : Type 0 where
   pub exact : (mode : Mode) (size kind : ℕ) (F : List ℕ) → AreBytes F → (l : OpenedLog mode size kind F) → AllExact l.records (values_of l)
   -- where it is claimed of all of them, what they add up to is what the added-up values do
   pub sum : (mode : Mode) (size kind : ℕ) (F : List ℕ) → AreBytes F → ¬ (kind ≡ 6) → (l : OpenedLog mode size kind F) → AllWithin (values_of l) →
-      total_from (first_total kind) (unscaled l.records) ≡ total_added (Amount (pos 0)) (values_of l)
+      total_from (first_total kind) (unscaled l.records) ≡ total_added (Some (Ok (pos 0))) (values_of l)
   -- so the log has that in its line t
   pub foot : (mode : Mode) (size kind : ℕ) (F : List ℕ) → AreBytes F → ¬ (kind ≡ 6) → (l : OpenedLog mode size kind F) → AllWithin (values_of l) → LogOf mode size kind F l.answer (text_added l)
   -- and the number in it is their sum
-  pub number : (a z : ℤ) (ws : List Added) → total_added (Amount a) ws ≡ Amount z → z ≡ sum_added a ws
+  pub number : (a z : ℤ) (ws : List Added) → total_added (Some (Ok a)) ws ≡ Some (Ok z) → z ≡ sum_added a ws
   -- kind 6 has no line t, whatever its records
   pub array : (mode : Mode) (size : ℕ) (F : List ℕ) (l : OpenedLog mode size 6 F) → LogOf mode size 6 F l.answer (header_text l.header ++ (lines_of l.records ++ end_line l.answer (length l.records)))
   -- nor has a refused opening: e stands alone

@@ -2,28 +2,27 @@
 use mathlib.Core.Path.{◌≡◌, refl, sym, ◌∙◌}
 use mathlib.Core.Bool.{Bool, true, false, cond, ◌&&◌}
 use mathlib.Core.List.{List, [], ◌∷◌}
-use Prim.Native.Nat.{ℕ, suc, ◌+◌, ◌*◌, ◌≤◌, ◌<◌}
+use Prim.Native.Nat.{ℕ, suc, ◌+◌, ◌≤◌}
 use native.Mathlib.Omega.{arith}
 use lib.Dec.{eqb}
-use lib.ListN.{length, drop, get_or}
-use lib.Seq.{drop-cons}
+use lib.ListN.{length, get_or}
+use borrow.Table.Steps.{cases as by}
 use native.Mathlib.Numerals.{add-one}
 use borrow.Author.Tests.{eqb-true}
+use Prim.Native.String.{String}
 use Rattle.common.specs.Ascii.{ascii}
-use Rattle.utf8.proofs.Cases.{first, second, least, most, every, each}
-use Rattle.items.specs.Items.{is_digit, starts, month_names, spells, named_from, month_named}
+use Rattle.utf8.proofs.Cases.{first, second, least, most, inside}
+use Rattle.std.proofs.Common.{map, ap, Option, Some, None}
+use Rattle.std.specs.Cmp.Lexicographic.{pointwise}
+use Rattle.std.specs.List.{position, position_from}
+use Rattle.std.proofs.lemmas.Iterator.Adapters.{position_from-zero}
+use Rattle.std.proofs.lemmas.List.Quantifiers.{position-Some}
+use Rattle.std.specs.Option.{option_map_or}
+use Rattle.items.specs.Items.{is_digit, month_names, spells, named_from, month_named, ranged, valued}
 
 -- the side of a test that is taken
 pub taken : {A : Type 0} {b : Bool} (x y : A) → b ≡ true → x ≡ cond b x y
 taken x y e = rw e
-
-pub starts_empty : (c : ℕ) (t : List ℕ) → length t ≡ 0 → false ≡ starts c t
-starts_empty c [] e = refl
-starts_empty c (a ∷ t) e = absurd (omega arith)
-
-pub starts_first : (c : ℕ) (t : List ℕ) → (length t ≡ 0 → ⊥) → eqb (get_or t 0 0) c ≡ starts c t
-starts_first c [] h = absurd (h refl)
-starts_first c (a ∷ t) h = refl
 
 pub digit_least : (a : ℕ) → is_digit a ≡ true → 48 ≤ a
 digit_least a e = least 48 57 a e
@@ -33,44 +32,54 @@ digit_most a e = most 48 57 a e
 
 -- ---- months
 
--- the names one behind the other, as the code has them
-abbrev pub letters : List ℕ
-letters = ascii "janfebmaraprmayjunjulaugsepoctnovdec"
+pub three : (s : List ℕ) → length s ≡ 3 → s ≡ get_or s 0 0 ∷ get_or s 1 0 ∷ get_or s 2 0 ∷ []
+three [] e = absurd (omega arith)
+three (a ∷ []) e = absurd (omega arith)
+three (a ∷ b ∷ []) e = absurd (omega arith)
+three (a ∷ b ∷ c ∷ []) e = refl
+three (a ∷ b ∷ c ∷ d ∷ s) e = absurd (omega arith)
 
-abbrev letter_of : ℕ → ℕ → ℕ
-letter_of k j = get_or (ascii (get_or month_names k "")) j 0
+abbrev sized : List String → Bool
+sized [] = true
+sized (name ∷ names) = eqb (length (ascii name)) 3 && sized names
 
-abbrev lettered : ℕ → Bool
-lettered k = eqb (get_or letters (3 * k) 0) (letter_of k 0) && eqb (get_or letters (3 * k + 1) 0) (letter_of k 1) && eqb (get_or letters (3 * k + 2) 0) (letter_of k 2)
+all_sized : sized month_names ≡ true
+all_sized = refl
 
-all_lettered : every lettered 12 ≡ true
-all_lettered = refl
+module _ (a b c : ℕ) where
+  abbrev is_name : List ℕ → Bool
+  is_name name = pointwise eqb (a ∷ b ∷ c ∷ []) name
 
--- the letters at their places spell the month
-spells_there : (a b c k : ℕ) → k < 12 → (eqb a (get_or letters (3 * k) 0) && eqb b (get_or letters (3 * k + 1) 0) && eqb c (get_or letters (3 * k + 2) 0)) ≡ spells a b c (get_or month_names k "")
-spells_there a b c k h =
-    let e = each lettered 12 all_lettered k h in
-    let p = eqb (get_or letters (3 * k) 0) (letter_of k 0) in
-    let q = eqb (get_or letters (3 * k + 1) 0) (letter_of k 1) in
-    let r = eqb (get_or letters (3 * k + 2) 0) (letter_of k 2) in
-    rw (
-      eqb-true (get_or letters (3 * k) 0) (letter_of k 0) (first p q (first (p && q) r e)),
-      eqb-true (get_or letters (3 * k + 1) 0) (letter_of k 1) (second p q (first (p && q) r e)),
-      eqb-true (get_or letters (3 * k + 2) 0) (letter_of k 2) (second (p && q) r e),
-    )
+  spells_name : (name : String) → length (ascii name) ≡ 3 → is_name (ascii name) ≡ spells a b c name
+  spells_name name h = rw (three (ascii name) h) (regroup (eqb a (get_or (ascii name) 0 0)) (eqb b (get_or (ascii name) 1 0)) (eqb c (get_or (ascii name) 2 0)))
+    where
+      regroup : (p q r : Bool) → (p && (q && (r && true))) ≡ (p && q && r)
+      regroup true true true = refl
+      regroup true true false = refl
+      regroup true false r = refl
+      regroup false q r = refl
 
-module _ (a b c k : ℕ) where
-  abbrev here : Bool
-  here = eqb a (get_or letters (3 * k) 0) && eqb b (get_or letters (3 * k + 1) 0) && eqb c (get_or letters (3 * k + 2) 0)
+  -- the first name that is these letters, where the first of the list has the number i
+  named_at : (names : List String) (i : ℕ) → sized names ≡ true → named_from (suc i) names a b c ≡ option_map_or suc (position_from is_name i (map ascii names)) 0
+  named_at [] i h = refl
+  named_at (name ∷ names) i h =
+      let e = spells_name name (eqb-true (length (ascii name)) 3 (first (eqb (length (ascii name)) 3) (sized names) h)) in
+      by (spells a b c name)
+      (λ t. rw (e, t))
+      (λ f. rw (e, f, add-one) (named_at names (suc i) (second (eqb (length (ascii name)) 3) (sized names) h)))
 
-  next_name : k < 12 → named_from (suc k) (drop k month_names) a b c ≡ cond here (suc k) (named_from (suc (suc k)) (drop (suc k) month_names) a b c)
-  next_name h = rw (drop-cons month_names k "", spells_there a b c k h)
+  -- the month is the place of its name
+  abbrev pub place : Option ℕ
+  place = position is_name (map ascii month_names)
 
-  pub named_here : k < 12 → month_named a b c ≡ named_from (suc k) (drop k month_names) a b c → here ≡ true → k + 1 ≡ month_named a b c
-  named_here h i e = add-one k ∙ sym (i ∙ next_name h ∙ simp e)
+  month_place : month_named a b c ≡ option_map_or suc place 0
+  unfolding month_named
+  month_place = named_at month_names 0 all_sized ∙ ap (λ (o : Option ℕ). option_map_or suc o 0) (sym (position_from-zero is_name (map ascii month_names)))
 
-  pub not_here : k < 12 → month_named a b c ≡ named_from (suc k) (drop k month_names) a b c → here ≡ false → month_named a b c ≡ named_from (suc (k + 1)) (drop (k + 1) month_names) a b c
-  not_here h i e = rw add-one (i ∙ next_name h ∙ simp e)
+  pub no_month : place ≡ None → None ≡ ranged 1 12 (month_named a b c) 3
+  no_month e = rw (month_place, e)
 
-  pub named_nowhere : k ≤ 12 → 12 ≤ k → month_named a b c ≡ named_from (suc k) (drop k month_names) a b c → 0 ≡ month_named a b c
-  named_nowhere l h i = let e : k ≡ 12 = omega arith in sym (i ∙ rw e)
+  pub a_month : (k : ℕ) → place ≡ Some k → valued (k + 1) 3 ≡ ranged 1 12 (month_named a b c) 3
+  a_month k e =
+      let h = (position-Some is_name (map ascii month_names) k [] e).0 in
+      rw (month_place, e, inside 1 12 (suc k) (omega arith) (omega (arith, h)), add-one)

@@ -13,6 +13,7 @@ use Rattle.common.specs.Ascii.{ascii}
 use Rattle.utf8.specs.Utf8.{within}
 use Rattle.utf8.proofs.Cases.{first, second, least, most, inside, every, each}
 use Rattle.items.specs.Items.{lower, month_names, spells, named_from, month_named}
+use Rattle.items.proofs.Items.{three}
 use Rattle.items.specs.Writing.{AnyCase, none, small, capital}
 
 -- a small letter
@@ -54,13 +55,6 @@ a_name k = (eqb (length (name_at k)) 3 && smalls (name_at k)) && eqb (month_name
 names : every a_name 12 ≡ true
 unfolding month_named
 names = refl
-
-three : (s : List ℕ) → length s ≡ 3 → s ≡ get_or s 0 0 ∷ get_or s 1 0 ∷ get_or s 2 0 ∷ []
-three [] e = absurd (omega arith)
-three (a ∷ []) e = absurd (omega arith)
-three (a ∷ b ∷ []) e = absurd (omega arith)
-three (a ∷ b ∷ c ∷ []) e = refl
-three (a ∷ b ∷ c ∷ d ∷ s) e = absurd (omega arith)
 
 module _ (k : ℕ) (h : k < 12) where
   abbrev test : a_name k ≡ true

@@ -14,9 +14,9 @@ use Rattle.utf8.specs.Utf8.{within}
 use Rattle.utf8.proofs.Cases.{first, second, least, most}
 use Rattle.items.specs.declared.Item.{Item}
 use Rattle.items.specs.declared.Item.TheVariants.{Sign, Two, OneOrTwo, MonthName, HalfDay, PlusMinus}
+use Rattle.std.proofs.Common.{Option, Some, None}
 use Rattle.items.specs.declared.Found.{Found}
-use Rattle.items.specs.declared.Found.TheVariants.{Nothing, Passed, Value}
-use Rattle.items.specs.Items.{is_digit, lower, starts, ranged, two as two_of, one_or_two, month_names, month_named, half, stands_at}
+use Rattle.items.specs.Items.{passed as passed_of, valued, is_digit, lower, starts, ranged, two as two_of, one_or_two, month_names, month_named, half, stands_at}
 use Rattle.items.specs.Writing.{digit_char, AnyCase, none, Writes, sign, two, one, or_two, month, am, pm, plus, minus}
 use Rattle.items.proofs.Items.{digit_least, digit_most}
 use Rattle.items.proofs.Letters.{cased, spelled, third_letter}
@@ -28,13 +28,13 @@ pub record Stands (i : Item) (v : List ℕ) (n : ℕ) (t : List ℕ) : Type 0 wh
   pub size : length chars ≡ n
   pub text : t ≡ chars ++ drop n t
 
-pub data Stood (i : Item) (t : List ℕ) : Found → Type 0 where
-  nothing : Stood i t Nothing
-  passed : {n : ℕ} → Stands i [] n t → Stood i t (Passed n)
-  value : {v n : ℕ} → Stands i (v ∷ []) n t → Stood i t (Value v n)
+pub data Stood (i : Item) (t : List ℕ) : Option Found → Type 0 where
+  nothing : Stood i t None
+  passed : {n : ℕ} → Stands i [] n t → Stood i t (passed_of n)
+  value : {v n : ℕ} → Stands i (v ∷ []) n t → Stood i t (valued v n)
 
 -- either side of a test
-either : {i : Item} {t : List ℕ} {x y : Found} (b : Bool) → (b ≡ true → Stood i t x) → (b ≡ false → Stood i t y) → Stood i t (cond b x y)
+either : {i : Item} {t : List ℕ} {x y : Option Found} (b : Bool) → (b ≡ true → Stood i t x) → (b ≡ false → Stood i t y) → Stood i t (cond b x y)
 either true f g = f refl
 either false f g = g refl
 
@@ -44,11 +44,11 @@ there {s = s} {n} t w e = record { chars = s; writes = w; size = e; text = ap (�
 
 -- ---- signs
 
-sign_stood : (c : ℕ) (t : List ℕ) → Stood (Sign c) t (cond (starts c t) (Passed 1) Nothing)
+sign_stood : (c : ℕ) (t : List ℕ) → Stood (Sign c) t (cond (starts c t) (passed_of 1) None)
 sign_stood c [] = nothing
 sign_stood c (a ∷ t) = either (eqb a c) (λ e. rw (eqb-true a c e) (passed (there t sign refl))) (λ f. nothing)
 
-plus_minus_stood : (t : List ℕ) → Stood PlusMinus t (cond (starts 43 t || starts 45 t) (Passed 1) Nothing)
+plus_minus_stood : (t : List ℕ) → Stood PlusMinus t (cond (starts 43 t || starts 45 t) (passed_of 1) None)
 plus_minus_stood [] = nothing
 plus_minus_stood (a ∷ t) =
     either (eqb a 43 || eqb a 45)
@@ -82,7 +82,7 @@ only_two l m [] = nothing
 only_two l m (a ∷ []) = either (is_digit a && is_digit 0) (λ e. absurd (false≢true (second (is_digit a) (is_digit 0) e))) (λ f. nothing)
 only_two l m (a ∷ b ∷ t) = two_stood (Two l m) l m a b t (λ d e p q r s. two p q r s)
 
-one_stood : (l m a : ℕ) (t : List ℕ) → Stood (OneOrTwo l m) (a ∷ t) (cond (is_digit a) (ranged l m (a - 48) 1) Nothing)
+one_stood : (l m a : ℕ) (t : List ℕ) → Stood (OneOrTwo l m) (a ∷ t) (cond (is_digit a) (ranged l m (a - 48) 1) None)
 one_stood l m a t =
     either (is_digit a) (λ e.
     let p = digit_char_lem a e in
@@ -138,18 +138,10 @@ long_enough : {i : Item} {v : List ℕ} {n : ℕ} {t : List ℕ} → Stands i v 
 long_enough {n = n} {t} s = omega (arith, ap length s.text ∙ length-append s.chars (drop n t), s.size)
 
 -- an item ends within its text
-pub passed_within : (i : Item) (t : List ℕ) {f : Found} {n : ℕ} → f ≡ stands_at i t → f ≡ Passed n → n ≤ length t
-passed_within i t {n = n} e p = long_enough (of (stood i t) (sym e ∙ p))
+pub ends_within : (i : Item) (t : List ℕ) (f : Found) → Some f ≡ stands_at i t → f.width ≤ length t
+ends_within i t f e = of (stood i t) (sym e)
   where
-    of : {g : Found} → Stood i t g → g ≡ Passed n → Stands i [] n t
-    of nothing q = absurd (let z : ◌≡◌ {A = ℕ} 0 1 = cc in omega arith)
-    of (passed {n = k} s) q = let z : k ≡ n = cc in subst (λ (x : ℕ). Stands i [] x t) z s
-    of (value s) q = absurd (let z : ◌≡◌ {A = ℕ} 0 1 = cc in omega arith)
-
-pub value_within : (i : Item) (t : List ℕ) {f : Found} {v n : ℕ} → f ≡ stands_at i t → f ≡ Value v n → n ≤ length t
-value_within i t {v = v} {n} e p = of (stood i t) (sym e ∙ p)
-  where
-    of : {g : Found} → Stood i t g → g ≡ Value v n → n ≤ length t
-    of nothing q = absurd (let z : ◌≡◌ {A = ℕ} 0 1 = cc in omega arith)
-    of (passed s) q = absurd (let z : ◌≡◌ {A = ℕ} 0 1 = cc in omega arith)
-    of (value {n = k} s) q = let z : k ≡ n = cc in omega (arith, z, long_enough s)
+    of : {g : Option Found} → Stood i t g → g ≡ Some f → f.width ≤ length t
+    of nothing q = cc
+    of (passed {n} s) q = let z : n ≡ f.width = cc in omega (arith, z, long_enough s)
+    of (value {v} {n} s) q = let z : n ≡ f.width = cc in omega (arith, z, long_enough s)

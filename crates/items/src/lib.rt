@@ -1,12 +1,15 @@
 // What stands in a form of a date, item by item: characters, numbers, names of months, am and pm.
 #![tactic(auto)]
 
-ghost use Rattle.std.specs.Prelude.{◌≡◌, ◌&&◌, eqb, get_or};
-ghost use Rattle.items.specs.declared.Item.TheVariants.{Sign, Two, OneOrTwo, MonthName, HalfDay, PlusMinus};
-ghost use Rattle.items.specs.Items.{is_digit, lower, starts, ranged, two, one_or_two, month_named, half, stands_at};
+ghost use Rattle.std.specs.Prelude.{◌≡◌, ◌&&◌, ◌+◌, ◌*◌, nat_eq};
+ghost use Rattle.std.specs.Bool.{then_some};
+ghost use Rattle.std.specs.List.{position};
+ghost use Rattle.std.specs.Cmp.Lexicographic.{pointwise};
+ghost use Rattle.items.specs.declared.Item.TheVariants.{OneOrTwo, MonthName, HalfDay};
+ghost use Rattle.items.specs.Items.{is_digit, digit, char_at, lower, ranged, stands_at};
 
 // What stands in a form, one behind the other. The two numbers are the least and the most.
-#[derive(Clone, Copy)]
+#[derive(Clone, Copy, Debug, PartialEq, Eq)]
 pub enum Item {
     // this character
     Sign(u8),
@@ -22,201 +25,114 @@ pub enum Item {
     PlusMinus,
 }
 
-// What an item is at the start of a text, and of how many characters.
-#[derive(Clone, Copy)]
-pub enum Found {
-    Nothing,
-    Passed(usize),
-    Value(u8, usize),
+// What an item is at the start of a text: its value, of those that have one, and its width in characters.
+#[derive(Clone, Copy, Debug, PartialEq, Eq)]
+pub struct Found {
+    pub value: Option<u8>,
+    pub width: usize,
 }
 
-fn is_digit(c: u8) -> bool
-    ensures { result ≡ is_digit c }
+// A character that has no value.
+const SIGN: Found = Found {
+    value: None,
+    width: 1,
+};
+
+// The value of a digit at a place.
+fn digit_at(t: &[u8], at: usize) -> Option<u8>
+    ensures { result ≡ then_some (is_digit (char_at t.now at)) (digit (char_at t.now at)) }
 {
-    if c < b'0' {
-        return false;
-    }
-    c <= b'9'
+    let c = *t.get(at)?;
+    c.is_ascii_digit().then(|| c - b'0')
 }
 
-// A capital letter as a small one.
-fn lowered(c: u8) -> u8
-    ensures { result ≡ lower c }
+// The value of two digits.
+fn two_digits(t: &[u8]) -> Option<u8>
+    ensures { result ≡ then_some (is_digit (char_at t.now 0) && is_digit (char_at t.now 1)) (10 * digit (char_at t.now 0) + digit (char_at t.now 1)) }
 {
-    if c < b'A' {
-        return c;
-    }
-    if b'Z' < c {
-        return c;
-    }
-    c + 32
-}
-
-fn starts_with(t: &[u8], c: u8) -> bool
-    ensures { result ≡ starts c t.now }
-{
-    if t.len() == 0 {
-        return false;
-    }
-    t[0] == c
-}
-
-// The character at a place, 0 behind the end.
-fn char_at(t: &[u8], at: usize) -> u8
-    ensures { result ≡ get_or t.now at 0 }
-{
-    if at < t.len() {
-        return t[at];
-    }
-    0
+    Some(10 * digit_at(t, 0)? + digit_at(t, 1)?)
 }
 
 // A value of so many characters, if it is in its range.
-fn in_range(least: u8, most: u8, v: u8, n: usize) -> Found
-    ensures { result ≡ ranged least most v n }
+fn in_range(least: u8, most: u8, v: u8, width: usize) -> Option<Found>
+    ensures { result ≡ ranged least most v width }
 {
-    if v < least {
-        return Found::Nothing;
-    }
-    if most < v {
-        return Found::Nothing;
-    }
-    Found::Value(v, n)
+    (least..=most).contains(&v).then_some(Found {
+        value: Some(v),
+        width,
+    })
 }
 
-fn two_digits(least: u8, most: u8, a: u8, b: u8) -> Found
-    ensures { result ≡ two least most a b }
+// The names of the months.
+const MONTHS: [[u8; 3]; 12] = [
+    *b"jan", *b"feb", *b"mar", *b"apr", *b"may", *b"jun", *b"jul", *b"aug", *b"sep", *b"oct",
+    *b"nov", *b"dec",
+];
+
+// The character at a place as a small letter, 0 behind the end.
+fn letter_at(t: &[u8], at: usize) -> u8
+    ensures { result ≡ lower (char_at t.now at) }
 {
-    if !is_digit(a) {
-        return Found::Nothing;
-    }
-    if !is_digit(b) {
-        return Found::Nothing;
-    }
-    in_range(least, most, 10 * (a - b'0') + (b - b'0'), 2)
+    // Kept: 0 is no letter, as the definition of a character at a place has it; an Option would be taken apart at each letter and say no more.
+    t.get(at).map_or(0, |c| c.to_ascii_lowercase())
 }
 
-fn one_or_two_digits(least: u8, most: u8, a: u8, b: u8) -> Found
-    ensures { result ≡ one_or_two least most a b }
+// Which of the names three small letters are, from 0.
+fn place_of(letters: [u8; 3]) -> Option<usize>
+    ensures { result ≡ position (λ name. pointwise nat_eq letters name) MONTHS }
 {
-    if is_digit(b) {
-        return two_digits(least, most, a, b);
-    }
-    if !is_digit(a) {
-        return Found::Nothing;
-    }
-    in_range(least, most, a - b'0', 1)
+    MONTHS.iter().position(|name| letters == *name)
 }
 
-// The names of the months, one behind the other.
-const MONTHS: [u8; 36] = *b"janfebmaraprmayjunjulaugsepoctnovdec";
-
-fn same_letters(a: u8, b: u8, c: u8, x: u8, y: u8, z: u8) -> bool
-    ensures { result ≡ (eqb a x && eqb b y && eqb c z) }
-{
-    if a != x {
-        return false;
-    }
-    if b != y {
-        return false;
-    }
-    c == z
-}
-
-// The month of three small letters, 0 where they name none.
-fn month_of(a: u8, b: u8, c: u8) -> u8
-    ensures { result ≡ month_named a b c }
-{
-    let mut k: usize = 0;
-    while k < 12 {
-        let at = 3 * k;
-        if same_letters(a, b, c, MONTHS[at], MONTHS[at + 1], MONTHS[at + 2]) {
-            return (k + 1) as u8;
-        }
-        k += 1;
-    }
-    0
-}
-
-fn half_of(a: u8, b: u8) -> Found
-    ensures { result ≡ half a b }
-{
-    if b != b'm' {
-        return Found::Nothing;
-    }
-    if a == b'a' {
-        return Found::Value(0, 2);
-    }
-    if a == b'p' {
-        return Found::Value(12, 2);
-    }
-    Found::Nothing
-}
-
-fn sign_at(t: &[u8], c: u8) -> Found
-    ensures { result ≡ stands_at (Sign c) t.now }
-{
-    if starts_with(t, c) {
-        return Found::Passed(1);
-    }
-    Found::Nothing
-}
-
-fn plus_minus_at(t: &[u8]) -> Found
-    ensures { result ≡ stands_at PlusMinus t.now }
-{
-    if starts_with(t, b'+') {
-        return Found::Passed(1);
-    }
-    if starts_with(t, b'-') {
-        return Found::Passed(1);
-    }
-    Found::Nothing
-}
-
-fn two_at(least: u8, most: u8, t: &[u8]) -> Found
-    ensures { result ≡ stands_at (Two least most) t.now }
-{
-    let a = char_at(t, 0);
-    let b = char_at(t, 1);
-    two_digits(least, most, a, b)
-}
-
-fn one_or_two_at(least: u8, most: u8, t: &[u8]) -> Found
-    ensures { result ≡ stands_at (OneOrTwo least most) t.now }
-{
-    let a = char_at(t, 0);
-    let b = char_at(t, 1);
-    one_or_two_digits(least, most, a, b)
-}
-
-fn month_at(t: &[u8]) -> Found
+#[tactic(auto, using(crate::proofs::Items::no_month, crate::proofs::Items::a_month), unfolding(crate::specs::Items::stands_at))]
+fn month_at(t: &[u8]) -> Option<Found>
     ensures { result ≡ stands_at MonthName t.now }
 {
-    let a = lowered(char_at(t, 0));
-    let b = lowered(char_at(t, 1));
-    let c = lowered(char_at(t, 2));
-    in_range(1, 12, month_of(a, b, c), 3)
+    let letters = [letter_at(t, 0), letter_at(t, 1), letter_at(t, 2)];
+    let place = place_of(letters)?;
+    Some(Found {
+        // Kept: the place is below twelve, and u8 has no From of a usize; try_from would add a None that never comes.
+        value: Some(place as u8 + 1),
+        width: 3,
+    })
 }
 
-fn half_at(t: &[u8]) -> Found
+#[tactic(auto, unfolding(crate::specs::Items::stands_at))]
+fn half_at(t: &[u8]) -> Option<Found>
     ensures { result ≡ stands_at HalfDay t.now }
 {
-    let a = lowered(char_at(t, 0));
-    let b = lowered(char_at(t, 1));
-    half_of(a, b)
+    let hours = match [letter_at(t, 0), letter_at(t, 1)] {
+        [b'a', b'm'] => 0,
+        [b'p', b'm'] => 12,
+        _ => return None,
+    };
+    Some(Found {
+        value: Some(hours),
+        width: 2,
+    })
+}
+
+#[tactic(auto, unfolding(crate::specs::Items::stands_at))]
+fn one_or_two_at(least: u8, most: u8, t: &[u8]) -> Option<Found>
+    ensures { result ≡ stands_at (OneOrTwo least most) t.now }
+{
+    match two_digits(t) {
+        Some(v) => in_range(least, most, v, 2),
+        None => in_range(least, most, digit_at(t, 0)?, 1),
+    }
 }
 
 // An item at the start of a text.
-pub fn item_at(i: Item, t: &[u8]) -> Found
-    ensures { result ≡ stands_at i t.now }
+#[tactic(auto, unfolding(crate::specs::Items::stands_at))]
+pub fn item_at(item: Item, t: &[u8]) -> Option<Found>
+    ensures { result ≡ stands_at item t.now }
 {
-    match i {
-        Item::Sign(c) => sign_at(t, c),
-        Item::Two(least, most) => two_at(least, most, t),
+    match item {
+        Item::Sign(c) => t.starts_with(&[c]).then_some(SIGN),
+        Item::Two(least, most) => in_range(least, most, two_digits(t)?, 2),
         Item::OneOrTwo(least, most) => one_or_two_at(least, most, t),
         Item::MonthName => month_at(t),
         Item::HalfDay => half_at(t),
-        Item::PlusMinus => plus_minus_at(t),
+        Item::PlusMinus => (t.starts_with(b"+") || t.starts_with(b"-")).then_some(SIGN),
     }
 }

@@ -1,17 +1,16 @@
--- The code's tables hold what specs/Table.antt says, and each field lies within its edition's minimum: computed over all rows at once.
-use mathlib.Core.Path.{◌≡◌, refl, sym, ap, ap₂, ◌∙◌}
-use mathlib.Core.Bool.{Bool, true, false, cond, ◌&&◌, ◌||◌, and-eq-true_iff, false≢true}
+-- Each field lies within its edition's minimum, and suits its edition: computed over all rows at once.
+use mathlib.Core.Path.{◌≡◌, refl, sym, ap, ◌∙◌}
+use mathlib.Core.Bool.{Bool, true, false, ◌&&◌, ◌||◌, and-eq-true_iff, false≢true}
 use mathlib.Core.List.{List, [], ◌∷◌, map}
-use Prim.Native.Nat.{ℕ, zero, suc, ◌+◌, ◌≤◌, ◌<◌}
+use Prim.Native.Nat.{ℕ, zero, suc, ◌≤◌, ◌<◌}
 use native.Mathlib.Omega.{arith}
 use lib.Dec.{leb, ltb, eqb}
 use lib.ListN.{get_or, get_or-eq_default, get_or-map}
-use borrow.Author.Tests.{ne_eqb, eqb-true, leb-true, leb-false}
+use borrow.Author.Tests.{ne_eqb, eqb-true, le-leb, leb-true, leb-false}
 use borrow.Table.Steps.{cases as by_bool}
 use Rattle.pascal.specs.Texts.{reach}
-use Rattle.layouts.specs.Table.{Entry, among, look, texts, field_of, minima, offsets, multipliers, clocks}
-use Rattle.layouts.specs.Layouts.{editions, edition_of, start_at, width_at, layout_of, field_by}
-use Rattle.layouts.specs.declared.Clock.TheVariants.{Nowhere}
+use Rattle.layouts.specs.Table.{Entry, among, look, texts, field_of, minima}
+use Rattle.layouts.specs.Editions.{editions}
 use Rattle.pascal.specs.declared.TextField.{TextField}
 use Rattle.pascal.specs.declared.TextField.TheVariants.{Absent, Pascal, PascalToEnd, Utf16}
 
@@ -34,14 +33,14 @@ table xs d n f e k h = ap (λ l. get_or l k d) e ∙ get_d_values_lem n f d k h
 pub each : {A : Type 0} (n : ℕ) (f g : ℕ → A) → values n f ≡ values n g → (k : ℕ) → k < n → f k ≡ g k
 each n f g e k h = sym (get_d_values_lem n f (f 0) k h) ∙ table _ (f 0) n g e k h
 
--- ---- an edition that no row names stands with 0
+-- ---- an edition that no row names stands in none
 
-abbrev every : {A : Type 0} → (A → Bool) → List A → Bool
+abbrev pub every : {A : Type 0} → (A → Bool) → List A → Bool
 every f [] = true
 every f (x ∷ xs) = f x && every f xs
 
 -- all that the rows name are editions
-abbrev named : {A : Type 0} → List (Entry A) → Bool
+abbrev pub named : {A : Type 0} → List (Entry A) → Bool
 named rs = every (λ r. every (among editions) r.editions) rs
 
 module _ (e : ℕ) (n : among editions e ≡ false) where
@@ -51,47 +50,21 @@ module _ (e : ℕ) (n : among editions e ≡ false) where
       let p = (and-eq-true_iff (among editions x) (every (among editions) xs)).0 k in
       rw (ne_eqb e x λ q. false≢true (sym n ∙ ap (among editions) q ∙ p.0)) (not_among xs p.1)
 
-  look_other : {A : Type 0} (other : A) (rs : List (Entry A)) → named rs ≡ true → look other rs e ≡ other
+  pub look_other : {A : Type 0} (other : A) (rs : List (Entry A)) → named rs ≡ true → look other rs e ≡ other
   look_other other [] k = refl
   look_other other (r ∷ rs) k =
       let p = (and-eq-true_iff (every (among editions) r.editions) (named rs)).0 k in
       rw (not_among r.editions p.0) (look_other other rs p.1)
 
--- an edition stands with 0, or is among the editions
-by_edition : (P : ℕ → Type 0) (e : ℕ) → (among editions e ≡ true → P e) → (among editions e ≡ false → P 0) → P (edition_of e)
-unfolding edition_of
-by_edition P e f g = go (among editions e) refl
-  where
-    go : (b : Bool) → among editions e ≡ b → P (cond b e 0)
-    go true n = f n
-    go false n = g n
+  pub no_minimum : look 0 minima e ≡ 0
+  unfolding minima editions
+  no_minimum = look_other 0 minima refl
 
-look_edition : {A : Type 0} (other : A) (rs : List (Entry A)) → named rs ≡ true → (e : ℕ) → look other rs e ≡ look other rs (edition_of e)
-unfolding editions
-look_edition other rs k e =
-    by_edition (λ x. look other rs e ≡ look other rs x) e (λ n. refl) (λ n. look_other e n other rs k ∙ sym (look_other 0 refl other rs k))
+  no_field : (k : ℕ) → k < 8 → field_of k e ≡ Absent
+  unfolding field_of texts editions
+  no_field k h = look_other Absent (get_or texts k []) (each 8 (λ k. named (get_or texts k [])) (λ k. true) refl k h)
 
--- the edition that a layout names
-again : (e : ℕ) → edition_of (edition_of e) ≡ edition_of e
-unfolding edition_of editions
-again e = by_edition (λ x. edition_of x ≡ x) e (λ n. rw n refl) (λ n. refl)
-
-pub layout_edition : (e : ℕ) → layout_of e ≡ layout_of (edition_of e)
-unfolding layout_of minima clocks offsets multipliers texts editions
-layout_edition e =
-    rw (again e, look_edition 0 minima refl e, look_edition Nowhere clocks refl e, look_edition 0 offsets refl e, look_edition 0 multipliers refl e, starts texts refl)
-  where
-    starts : (ts : List (List (Entry TextField))) → every named ts ≡ true → map (λ t. start_at (look Absent t e)) ts ≡ map (λ t. start_at (look Absent t (edition_of e))) ts
-    starts [] k = refl
-    starts (t ∷ ts) k =
-        let p = (and-eq-true_iff (named t) (every named ts)).0 k in
-        ap₂ (λ x xs. x ∷ xs) (ap start_at (look_edition Absent t p.0 e)) (starts ts p.1)
-
-field_edition : (k e : ℕ) → k < 8 → field_of k e ≡ field_of k (edition_of e)
-unfolding field_of texts editions
-field_edition k e h = look_edition Absent (get_or texts k []) (each 8 (λ k. named (get_or texts k [])) (λ k. true) refl k h) e
-
--- ---- what is computed at 0 and at each edition holds of every edition
+-- ---- what is computed at each edition holds of every edition
 
 either : (a b : Bool) {P : Type 0} → (a || b) ≡ true → (a ≡ true → P) → (b ≡ true → P) → P
 either true b m f g = f refl
@@ -105,22 +78,6 @@ module _ {A : Type 0} (f g : ℕ → A) where
       let tail : map f xs ≡ map g xs = cc in
       either (eqb e x) (among xs e) m (λ q. rw (eqb-true e x q) head) (λ q. same_among xs tail e q)
 
-  every_edition : map f (0 ∷ editions) ≡ map g (0 ∷ editions) → (e : ℕ) → f (edition_of e) ≡ g (edition_of e)
-  every_edition k e =
-      let head : f 0 ≡ g 0 = cc in
-      let tail : map f editions ≡ map g editions = cc in
-      by_edition (λ x. f x ≡ g x) e (same_among editions tail e) (λ n. head)
-
--- a field is known by its start and by its width in edition 81, which has all eight texts
-pub field_by_lem : (k e : ℕ) → k < 8 → field_by (layout_of e).edition (get_or (layout_of e).starts k 0) (width_at (field_of k 81)) ≡ field_of k e
-unfolding layout_of field_of texts editions
-field_by_lem k e h =
-    let made : ℕ → ℕ → TextField = λ k e. field_by e (start_at (field_of k e)) (width_at (field_of k 81)) in
-    let stored : ℕ → ℕ → TextField = λ k e. field_of k e in
-    let known = every_edition (made k) (stored k) (each 8 (λ k. map (made k) (0 ∷ editions)) (λ k. map (stored k) (0 ∷ editions)) refl k h) e in
-    let same = field_edition k e h in
-    ap (λ s. field_by (edition_of e) s (width_at (field_of k 81))) (get_or-map (λ t. start_at (look Absent t e)) texts k [] ∙ ap start_at same) ∙ known ∙ sym same
-
 pub field_none : (k e : ℕ) → 8 ≤ k → field_of k e ≡ Absent
 unfolding field_of texts
 field_none k e h = ap (λ t. look Absent t e) (get_or-eq_default texts [] h)
@@ -132,36 +89,29 @@ suits (Pascal start width) e = leb e 102
 suits (PascalToEnd start) e = leb e 102
 suits (Utf16 start) e = ltb 102 e
 
-field_of_edition : (k e : ℕ) → k < 8 → suits (field_of k e) e ≡ true
-unfolding field_of texts editions
-field_of_edition k e h =
-    let row : ℕ → ℕ → Bool = λ k e. suits (field_of k e) e in
+-- a field lies within its edition's minimum
+abbrev lies : TextField → ℕ → Bool
+lies f e = leb (reach f) (look 0 minima e)
+
+-- what is computed of the fields of each edition, and holds of an absent one, holds of every field
+field_all : (P : TextField → ℕ → Bool) → ((e : ℕ) → P Absent e ≡ true) → values 8 (λ k. map (λ e. P (field_of k e) e) editions) ≡ values 8 (λ k. map (λ _. true) editions) → (k e : ℕ) → P (field_of k e) e ≡ true
+field_all P a q k e =
+    by_bool (leb 8 k)
+    (λ t. rw (field_none k e (leb-true 8 k t)) (a e))
+    (λ t. let h = leb-false 8 k t in
     by_bool (among editions e)
-    (same_among (row k) (λ _. true) editions (each 8 (λ k. map (row k) editions) (λ k. map (λ _. true) editions) refl k h) e)
-    λ n. ap (λ f. suits f e) (look_other e n Absent (get_or texts k []) (each 8 (λ k. named (get_or texts k [])) (λ k. true) refl k h))
+    (same_among (λ e. P (field_of k e) e) (λ _. true) editions (each 8 (λ k. map (λ e. P (field_of k e) e) editions) (λ k. map (λ _. true) editions) q k h) e)
+    (λ n. rw (no_field e n k h) (a e)))
 
 pub field_suits : (k e : ℕ) → suits (field_of k e) e ≡ true
-field_suits k e = by_bool (leb 8 k) (λ t. rw (field_none k e (leb-true 8 k t)) refl) (λ t. field_of_edition k e (leb-false 8 k t))
-
--- a field lies within its edition's minimum
-lies_within : (k e : ℕ) → k < 8 → reach (field_of k e) ≤ look 0 minima e
-unfolding field_of texts minima editions
-lies_within k e h =
-    let lies : ℕ → ℕ → Bool = λ k e. leb (reach (field_of k e)) (look 0 minima e) in
-    leb-true _ _ (ap₂ (λ f m. leb (reach f) m) (field_edition k e h) (look_edition 0 minima refl e)
-    ∙ every_edition (lies k) (λ _. true) (each 8 (λ k. map (lies k) (0 ∷ editions)) (λ k. map (λ _. true) (0 ∷ editions)) refl k h) e)
+unfolding field_of texts editions
+field_suits k e = field_all suits (λ e. refl) refl k e
 
 pub field_lies : (k e : ℕ) → reach (field_of k e) ≤ look 0 minima e
-field_lies k e = by_bool (leb 8 k) (λ t. rw (field_none k e (leb-true 8 k t)) (omega arith)) (λ t. lies_within k e (leb-false 8 k t))
+unfolding field_of texts minima editions
+field_lies k e = leb-true _ _ (field_all lies (λ e. le-leb 0 (look 0 minima e) (omega arith)) refl k e)
 
--- a stored double lies within its edition's minimum, and byte 0, which stands for none, within the smallest
-abbrev pub lies : List (Entry ℕ) → ℕ → Bool
-lies rs e = leb (look 0 rs e + 8) 512 || leb (look 0 rs e + 8) (look 0 minima e)
-
-pub double_lies : (rs : List (Entry ℕ)) → named rs ≡ true → map (lies rs) (0 ∷ editions) ≡ map (λ _. true) (0 ∷ editions) → (e n : ℕ) → 512 ≤ n → look 0 minima e ≤ n → look 0 rs e + 8 ≤ n
-unfolding minima editions
-double_lies rs k l e n h m =
-    let same = look_edition 0 rs k e in
-    let least = look_edition 0 minima refl e in
-    either (leb (look 0 rs (edition_of e) + 8) 512) (leb (look 0 rs (edition_of e) + 8) (look 0 minima (edition_of e))) (every_edition (lies rs) (λ _. true) l e)
-    (λ t. omega (arith, leb-true)) (λ t. omega (arith, leb-true))
+-- the fields of an edition, by the numbers of its texts less one
+pub field_at : (k e : ℕ) → get_or (map (λ t. look Absent t e) texts) k Absent ≡ field_of k e
+unfolding field_of
+field_at k e = get_or-map (λ t. look Absent t e) texts k []

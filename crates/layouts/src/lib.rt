@@ -1,150 +1,176 @@
 // What stands where in a header, by the edition.
 #![tactic(auto)]
 
-ghost use Rattle.std.specs.Prelude.{◌≡◌, ℕ};
-ghost use Rattle.layouts.specs.Table.{field_of};
-ghost use Rattle.layouts.specs.Layouts.{layout_of, field_by};
+ghost use Rattle.std.specs.Prelude.{◌≡◌, ◌+◌, ◌≤◌, map, IfSome};
+ghost use Rattle.layouts.specs.Table.{look, minima, clocks, offsets, multipliers, texts};
+ghost use Rattle.layouts.specs.Editions.{edition_number, Decodes, stored};
+ghost use Rattle.layouts.specs.declared.Clock.TheVariants.{Nowhere};
+ghost use Rattle.pascal.specs.declared.TextField.TheVariants.{Absent};
 
+use error::Refusal;
 use pascal::TextField;
 
 // How the start and the end of a run are stored.
-#[derive(Clone, Copy)]
+// Kept: `Nowhere` as a third case, since an `Option` of the two others would only add a second match.
+#[derive(Clone, Copy, Debug, PartialEq, Eq)]
 pub enum Clock {
     Nowhere,
     Whole,
     Single,
 }
 
-#[derive(Clone, Copy)]
-pub struct Layout {
-    pub edition: u32,
-    // of a header, in bytes; 0 for an unknown edition
-    pub minimum: usize,
-    pub clock: Clock,
-    // of the corrections; 0: no double is stored
-    pub offset: usize,
-    pub mult: usize,
-    // of the field of each text; 0: the edition has no such text
-    pub starts: [usize; 8],
+// The editions of headers that are known, by their numbers: the old ones up to 102, then the new ones.
+#[derive(Clone, Copy, Debug, PartialEq, Eq)]
+pub enum Edition {
+    E2 = 2,
+    E30 = 30,
+    E31 = 31,
+    E81 = 81,
+    E102 = 102,
+    E130 = 130,
+    E131 = 131,
+    E179 = 179,
 }
 
-// The last is for all other editions.
-const LAYOUTS: [Layout; 9] = [
-    Layout {
-        edition: 2,
-        minimum: 512,
-        clock: Clock::Whole,
-        offset: 0,
-        mult: 0,
-        starts: [24, 86, 148, 208, 228, 0, 0, 178],
-    },
-    Layout {
-        edition: 30,
-        minimum: 652,
-        clock: Clock::Whole,
-        offset: 636,
-        mult: 644,
-        starts: [24, 86, 148, 208, 228, 596, 0, 178],
-    },
-    Layout {
-        edition: 31,
-        minimum: 512,
-        clock: Clock::Nowhere,
-        offset: 0,
-        mult: 0,
-        starts: [24, 86, 148, 208, 228, 0, 0, 178],
-    },
-    Layout {
-        edition: 81,
-        minimum: 652,
-        clock: Clock::Whole,
-        offset: 636,
-        mult: 644,
-        starts: [24, 86, 148, 208, 228, 596, 244, 178],
-    },
-    Layout {
-        edition: 102,
-        minimum: 512,
-        clock: Clock::Whole,
-        offset: 0,
-        mult: 0,
-        starts: [24, 86, 148, 208, 228, 0, 0, 178],
-    },
-    Layout {
-        edition: 130,
-        minimum: 4800,
-        clock: Clock::Whole,
-        offset: 0,
-        mult: 4732,
-        starts: [858, 0, 1880, 2492, 2574, 4213, 4172, 2391],
-    },
-    Layout {
-        edition: 131,
-        minimum: 4000,
-        clock: Clock::Whole,
-        offset: 0,
-        mult: 3085,
-        starts: [858, 0, 1880, 2492, 2574, 0, 3093, 2391],
-    },
-    Layout {
-        edition: 179,
-        minimum: 4800,
-        clock: Clock::Single,
-        offset: 0,
-        mult: 4732,
-        starts: [858, 0, 1880, 2492, 2574, 4213, 4172, 2391],
-    },
-    Layout {
-        edition: 0,
-        minimum: 0,
-        clock: Clock::Nowhere,
-        offset: 0,
-        mult: 0,
-        starts: [0, 0, 0, 0, 0, 0, 0, 0],
-    },
-];
+impl TryFrom<u32> for Edition {
+    type Error = Refusal;
 
-// The width of each field in the old editions, in bytes. 0: up to the header's end.
-const WIDTHS: [usize; 8] = [60, 60, 28, 20, 0, 40, 64, 60];
+    ghost try_from_gives = { Decodes };
 
-// The layout of an edition.
-pub fn layout_of(edition: u32) -> Layout
-    ensures { result ≡ layout_of edition }
-{
-    let layouts = LAYOUTS;
-    let mut i: usize = 0;
-    while i < 8 {
-        let layout = layouts[i];
-        if layout.edition == edition {
-            return layout;
+    #[tactic(auto, unfolding(crate::specs::Editions::editions))]
+    fn try_from(number: u32) -> Result<Edition, Refusal> {
+        match number {
+            2 => Ok(Edition::E2),
+            30 => Ok(Edition::E30),
+            31 => Ok(Edition::E31),
+            81 => Ok(Edition::E81),
+            102 => Ok(Edition::E102),
+            130 => Ok(Edition::E130),
+            131 => Ok(Edition::E131),
+            179 => Ok(Edition::E179),
+            _ => Err(Refusal::UnknownEdition),
         }
-        i += 1;
     }
-    layouts[8]
 }
 
-fn field_by(edition: u32, start: usize, width: usize) -> TextField
-    ensures { result ≡ field_by edition start width }
-{
-    if start == 0 {
-        return TextField::Absent;
+impl From<Edition> for u32 {
+    ghost from_gives = { λ e n. n ≡ edition_number e };
+
+    fn from(edition: Edition) -> u32 {
+        edition as u32
     }
-    if 102 < edition {
-        return TextField::Utf16 { start };
-    }
-    if width == 0 {
-        return TextField::PascalToEnd { start };
-    }
-    TextField::Pascal { start, width }
 }
 
-// The field of a text, by its number less one, in the layout of an edition.
-pub fn field_in(layout: Layout, k: usize) -> TextField
-    ensures { (e : ℕ) → layout ≡ layout_of e → result ≡ field_of k e }
-{
-    if 7 < k {
-        return TextField::Absent;
+impl Edition {
+    // The smallest size of a header, in bytes.
+    #[tactic(auto, unfolding(crate::specs::Table::minima))]
+    pub fn minimum(self) -> usize
+        ensures row { result ≡ look 0 minima (edition_number self) }
+        ensures lower_bound { 512 ≤ result }
+    {
+        match self {
+            Edition::E2 | Edition::E31 | Edition::E102 => 512,
+            Edition::E30 | Edition::E81 => 652,
+            Edition::E131 => 4000,
+            Edition::E130 | Edition::E179 => 4800,
+        }
     }
-    let starts = layout.starts;
-    field_by(layout.edition, starts[k], WIDTHS[k])
+
+    #[tactic(auto, unfolding(crate::specs::Table::clocks))]
+    pub fn clock(self) -> Clock
+        ensures { result ≡ look Nowhere clocks (edition_number self) }
+    {
+        match self {
+            Edition::E31 => Clock::Nowhere,
+            Edition::E179 => Clock::Single,
+            _ => Clock::Whole,
+        }
+    }
+
+    // Where the offset correction is stored.
+    #[tactic(auto, unfolding(crate::specs::Table::offsets, crate::specs::Table::minima))]
+    pub fn offset(self) -> Option<usize>
+        ensures row { result ≡ stored (look 0 offsets (edition_number self)) }
+        ensures within { IfSome result (λ at. at + 8 ≤ look 0 minima (edition_number self)) }
+    {
+        match self {
+            Edition::E30 | Edition::E81 => Some(636),
+            _ => None,
+        }
+    }
+
+    // Where the correction's factor is stored.
+    #[tactic(auto, unfolding(crate::specs::Table::multipliers, crate::specs::Table::minima))]
+    pub fn multiplier(self) -> Option<usize>
+        ensures row { result ≡ stored (look 0 multipliers (edition_number self)) }
+        ensures within { IfSome result (λ at. at + 8 ≤ look 0 minima (edition_number self)) }
+    {
+        match self {
+            Edition::E30 | Edition::E81 => Some(644),
+            Edition::E131 => Some(3085),
+            Edition::E130 | Edition::E179 => Some(4732),
+            _ => None,
+        }
+    }
+
+    // The field of each of the eight texts.
+    #[tactic(auto, unfolding(crate::specs::Table::texts))]
+    pub fn fields(self) -> [TextField; 8]
+        ensures { result ≡ map (λ t. look Absent t (edition_number self)) texts }
+    {
+        let signal = match self {
+            Edition::E30 | Edition::E81 => TextField::Pascal {
+                start: 596,
+                width: 40,
+            },
+            Edition::E130 | Edition::E179 => TextField::Utf16 { start: 4213 },
+            _ => TextField::Absent,
+        };
+        let units = match self {
+            Edition::E81 => TextField::Pascal {
+                start: 244,
+                width: 64,
+            },
+            Edition::E131 => TextField::Utf16 { start: 3093 },
+            Edition::E130 | Edition::E179 => TextField::Utf16 { start: 4172 },
+            _ => TextField::Absent,
+        };
+        match self {
+            Edition::E130 | Edition::E131 | Edition::E179 => [
+                TextField::Utf16 { start: 858 },
+                TextField::Absent,
+                TextField::Utf16 { start: 1880 },
+                TextField::Utf16 { start: 2492 },
+                TextField::Utf16 { start: 2574 },
+                signal,
+                units,
+                TextField::Utf16 { start: 2391 },
+            ],
+            _ => [
+                TextField::Pascal {
+                    start: 24,
+                    width: 60,
+                },
+                TextField::Pascal {
+                    start: 86,
+                    width: 60,
+                },
+                TextField::Pascal {
+                    start: 148,
+                    width: 28,
+                },
+                TextField::Pascal {
+                    start: 208,
+                    width: 20,
+                },
+                TextField::PascalToEnd { start: 228 },
+                signal,
+                units,
+                TextField::Pascal {
+                    start: 178,
+                    width: 60,
+                },
+            ],
+        }
+    }
 }

@@ -26,11 +26,14 @@ use Rattle.layouts.proofs.Tables.{table}
 use Rattle.pascal.specs.declared.TextField.{TextField}
 use Rattle.pascal.specs.declared.TextField.TheVariants.{Absent, Pascal, PascalToEnd, Utf16}
 use Rattle.metadata.specs.Metadata.{Header, metadata_rule, scans_rule, open_rule}
-use Rattle.fetch.specs.Fetch.{trimmed_text, text_of, fetch_rule, Outcome, wrote, refuse, outcome_of, Fetches, replaced_in, replaced_by, passed_on, passed}
+use Rattle.fetch.specs.Fetch.{trimmed_text, text_of, fetch_rule, Outcome, wrote, refuse, outcome_of, Fetches, replaced_of, replaced_in, replaced_by, passed_on, passed}
 use Rattle.fetch.specs.declared.FetchedText.{FetchedText}
 use Rattle.fetch.proofs.Texts.{old_units}
-use Rattle.fetch.proofs.Fetches.{text_in, fetch_unknown, fetch_no_text, fetch_opens, passes_none}
+use Rattle.std.specs.Prelude.{Result}
+use Rattle.error.specs.declared.Refusal.{Refusal}
+use Rattle.fetch.proofs.Fetches.{text_read, fetch_unknown, fetch_no_text, fetch_opens, passes_none}
 use Rattle.texts.specs.Eight.{numbers, Texts, all_passed}
+use Rattle.texts.specs.Eight as all
 use Rattle.texts.specs.declared.FetchedTexts.{FetchedTexts}
 use Rattle.letters.specs.Letters.{occurrences, in_scalars, genuine, trimmed_scalars, scalars_in, Given, Tells, GivenAll, TellAll}
 use Rattle.letters.proofs.Units.{no_letter, one_text, letters_of}
@@ -136,34 +139,34 @@ same_count : {n k : ℕ} → wrote n ≡ wrote k → n ≡ k
 same_count e = cc
 
 -- a text that was written stands at the buffer's start
-stands : (r : FetchedText) (old new t : List ℕ) (m n : ℕ) → Fetches r.answer old new (got t m) → outcome_of r.answer ≡ wrote n → take n new ≡ t
+stands : (r : Result FetchedText Refusal) (old new t : List ℕ) (m n : ℕ) → Fetches r old new (got t m) → outcome_of r ≡ wrote n → take n new ≡ t
 stands r old new t m n f w =
     by (leb (length t) (length old))
     (λ b.
-    let e : outcome_of r.answer ≡ wrote (length t) = simp b at f.answer in
+    let e : outcome_of r ≡ wrote (length t) = simp b at f.answer in
     let p : new ≡ t ++ drop (length t) old = simp b at f.buffer in
     ap (take n) p ∙ take_at t (drop (length t) old) n (sym (same_count (sym w ∙ e))))
-    λ b. let e : outcome_of r.answer ≡ refuse 15 = simp b at f.answer in absurd (wrote≢refuse (sym w ∙ e))
+    λ b. let e : outcome_of r ≡ refuse 15 = simp b at f.answer in absurd (wrote≢refuse (sym w ∙ e))
 
-module _ (kind number : ℕ) (s : List ℕ) (r : FetchedText) (old new : List ℕ) (g : Given kind number s r old new) where
+module _ (kind number : ℕ) (s : List ℕ) (r : Result FetchedText Refusal) (old new : List ℕ) (g : Given kind number s r old new) where
   abbrev opened : Read Header
   opened = read true (open_rule kind) s
 
-  by_answer : r.replaced ≡ passed_on (outcome_of r.answer) (replaced_by number opened)
+  by_answer : replaced_of r ≡ passed_on (outcome_of r) (replaced_by number opened)
   unfolding passed
   by_answer = g.count ∙ ap (λ (o : Outcome). passed_on o (replaced_by number opened)) (sym g.fetches.answer)
 
-  module _ (n : ℕ) (w : outcome_of r.answer ≡ wrote n) where
-    given_count : r.replaced ≡ replaced_by number opened
+  module _ (n : ℕ) (w : outcome_of r ≡ wrote n) where
+    given_count : replaced_of r ≡ replaced_by number opened
     given_count = by_answer ∙ ap (λ (o : Outcome). passed_on o (replaced_by number opened)) w
 
     no_stop : {z : Stop} → read true (fetch_rule kind number) s ≡ stops z → ⊥
     no_stop e = let f = rw e at g.fetches in absurd (wrote≢refuse (sym w ∙ f.answer))
 
-    read_text : (x : Header) (m : ℕ) → opened ≡ got x m → read true (fetch_rule kind number) s ≡ got (text_in number x) m
+    read_text : (x : Header) (m : ℕ) → opened ≡ got x m → read true (fetch_rule kind number) s ≡ got (text_read number x) m
     read_text x m e =
         by (known kind)
-        (λ k. by (leb 1 number && leb number 8) (λ b. fetch_opens kind number s k b ∙ ap (map_read (text_in number)) e) (λ b. absurd (no_stop (fetch_no_text kind number s k b))))
+        (λ k. by (leb 1 number && leb number 8) (λ b. fetch_opens kind number s k b ∙ ap (map_read (text_read number)) e) (λ b. absurd (no_stop (fetch_no_text kind number s k b))))
         λ k. absurd (no_stop (fetch_unknown kind number s k))
 
     module _ (x : Header) (m : ℕ) (o : AreBytes s) (e : opened ≡ got x m) where
@@ -173,9 +176,9 @@ module _ (kind number : ℕ) (s : List ℕ) (r : FetchedText) (old new : List �
       fetched_utf8 : Utf8 (take n new) (scalars_in field x.bytes)
       fetched_utf8 =
           let f = rw (read_text x m e) at g.fetches in
-          subst (λ (bs : List ℕ). Utf8 bs (scalars_in field x.bytes)) (sym (stands r old new (text_in number x) m n f w)) (text_utf8 field x.bytes (read_bytes kind m s x o e))
+          subst (λ (bs : List ℕ). Utf8 bs (scalars_in field x.bytes)) (sym (stands r old new (text_read number x) m n f w)) (text_utf8 field x.bytes (read_bytes kind m s x o e))
 
-      fetched_letters : (cs : List ℕ) → Utf8 (take n new) cs → occurrences 0xFFFD cs ≡ r.replaced + genuine field x.bytes
+      fetched_letters : (cs : List ℕ) → Utf8 (take n new) cs → occurrences 0xFFFD cs ≡ replaced_of r + genuine field x.bytes
       fetched_letters cs u =
           ap (occurrences 0xFFFD) (one_text u fetched_utf8) ∙ letters_in field x.bytes
           ∙ ap (λ (k : ℕ). k + genuine field x.bytes) (sym (given_count ∙ ap (replaced_by number) e))
@@ -183,7 +186,7 @@ module _ (kind number : ℕ) (s : List ℕ) (r : FetchedText) (old new : List �
   pub tells : AreBytes s → Tells kind number s r new
   tells o = record {
     refused = λ c e. by_answer ∙ ap (λ (k : Outcome). passed_on k (replaced_by number opened)) e;
-    old = λ x m e l. by_answer ∙ ap (passed_on (outcome_of r.answer)) (ap (replaced_by number) e ∙ sym (old_units (number - 1) x.says.edition x.bytes l)) ∙ sym (passes_none (outcome_of r.answer));
+    old = λ x m e l. by_answer ∙ ap (passed_on (outcome_of r)) (ap (replaced_by number) e ∙ sym (old_units (number - 1) x.says.edition x.bytes l)) ∙ sym (passes_none (outcome_of r));
     utf8 = λ x m n e w. fetched_utf8 n w x m o e;
     letters = λ x m n cs e w u. fetched_letters n w x m o e cs u;
   }
@@ -195,11 +198,11 @@ zeros [] k = refl
 zeros (n ∷ ns) zero = refl
 zeros (n ∷ ns) (suc k) = zeros ns k
 
-module _ (kind : ℕ) (s : List ℕ) (r : FetchedTexts) (m : Both Texts Texts) (g : GivenAll kind s r m) where
+module _ (kind : ℕ) (s : List ℕ) (r : Result FetchedTexts Refusal) (m : Both Texts Texts) (g : GivenAll kind s r m) where
   abbrev numbered : Outcome → ℕ → ℕ
   numbered o number = passed_on o (replaced_by number (read true (open_rule kind) s))
 
-  each_answer : r.replaced ≡ map (numbered (outcome_of r.answer)) numbers
+  each_answer : all.replaced_of r ≡ map (numbered (all.outcome_of r)) numbers
   unfolding all_passed
   each_answer = g.counts ∙ ap (λ (o : Outcome). map (numbered o) numbers) (sym g.fetches.answer)
 
@@ -208,10 +211,10 @@ module _ (kind : ℕ) (s : List ℕ) (r : FetchedTexts) (m : Both Texts Texts) (
       let e : suc (number - 1) ≡ number = omega arith in
       table (map (numbered o) numbers) 0 8 (λ k. numbered o (suc k)) refl (number - 1) (omega arith) ∙ ap (numbered o) e
 
-  each_is : (number n k : ℕ) (f : FetchedText) (old new : List ℕ) → 1 ≤ number → number ≤ 8 → Given kind number s f old new → outcome_of r.answer ≡ wrote n → outcome_of f.answer ≡ wrote k
-      → get_or r.replaced (number - 1) 0 ≡ f.replaced
+  each_is : (number n k : ℕ) (f : Result FetchedText Refusal) (old new : List ℕ) → 1 ≤ number → number ≤ 8 → Given kind number s f old new → all.outcome_of r ≡ wrote n → outcome_of f ≡ wrote k
+      → get_or (all.replaced_of r) (number - 1) 0 ≡ replaced_of f
   each_is number n k f old new low high h p q =
-      ap (λ (l : List ℕ). get_or l (number - 1) 0) each_answer ∙ by_number (outcome_of r.answer) number low high
+      ap (λ (l : List ℕ). get_or l (number - 1) 0) each_answer ∙ by_number (all.outcome_of r) number low high
       ∙ ap (λ (o : Outcome). numbered o number) p ∙ sym (given_count kind number s f old new h k q)
 
   pub tell_all : TellAll kind s r

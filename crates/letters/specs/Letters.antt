@@ -1,5 +1,5 @@
 -- Request 4: what the number of replaced units says of a text, of UTF-16, of Fetch and of all texts at once.
-use Rattle.std.specs.Prelude.{◌≡◌, true, cond, List, [], ◌∷◌, ℕ, ◌+◌, ◌-◌, ◌*◌, ◌≤◌, eqb, length, take, get_or}
+use Rattle.std.specs.Prelude.{Result, ◌≡◌, true, cond, List, [], ◌∷◌, ℕ, ◌+◌, ◌-◌, ◌*◌, ◌≤◌, eqb, length, take, get_or}
 use denote.Triple.Both.{Both}
 use Rattle.rules.specs.Rule.{got, read}
 use Rattle.common.specs.Bytes.{AreBytes, part}
@@ -10,9 +10,11 @@ use Rattle.layouts.specs.Table.{field_of}
 use Rattle.pascal.specs.declared.TextField.{TextField}
 use Rattle.pascal.specs.declared.TextField.TheVariants.{Absent, Pascal, PascalToEnd, Utf16}
 use Rattle.metadata.specs.Metadata.{Header, open_rule}
-use Rattle.fetch.specs.Fetch.{fetch_rule, wrote, refuse, outcome_of, Fetches, passed}
+use Rattle.error.specs.declared.Refusal.{Refusal}
+use Rattle.fetch.specs.Fetch.{fetch_rule, wrote, refuse, outcome_of, Fetches, replaced_of, passed}
 use Rattle.fetch.specs.declared.FetchedText.{FetchedText}
 use Rattle.texts.specs.Eight.{eight_rule, Texts, FetchesAll, all_passed}
+use Rattle.texts.specs.Eight as all
 use Rattle.texts.specs.declared.FetchedTexts.{FetchedTexts}
 
 -- how often x stands in a list
@@ -62,39 +64,39 @@ scalars_in (PascalToEnd start) h = trimmed_scalars (decode (part (start + 1) (ge
 scalars_in (Utf16 start) h = utf16 (units (part (start + 1) (2 * get_or h start 0) h))
 
 -- what Fetch gives by its contract: the answer r with the number beside it, and the lent buffer before and after
-pub record Given (kind number : ℕ) (s : List ℕ) (r : FetchedText) (old new : List ℕ) : Type 0 where
-  pub fetches : Fetches r.answer old new (read true (fetch_rule kind number) s)
-  pub count : r.replaced ≡ passed kind number old s
+pub record Given (kind number : ℕ) (s : List ℕ) (r : Result FetchedText Refusal) (old new : List ℕ) : Type 0 where
+  pub fetches : Fetches r old new (read true (fetch_rule kind number) s)
+  pub count : replaced_of r ≡ passed kind number old s
 
 -- what its number says
-pub record Tells (kind number : ℕ) (s : List ℕ) (r : FetchedText) (new : List ℕ) : Type 0 where
+pub record Tells (kind number : ℕ) (s : List ℕ) (r : Result FetchedText Refusal) (new : List ℕ) : Type 0 where
   -- 'A refusal passes 0'
-  pub refused : (c : ℕ) → outcome_of r.answer ≡ refuse c → r.replaced ≡ 0
+  pub refused : (c : ℕ) → outcome_of r ≡ refuse c → replaced_of r ≡ 0
   -- 'an old-edition text reports 0'
-  pub old : (x : Header) (m : ℕ) → read true (open_rule kind) s ≡ got x m → x.says.edition ≤ 102 → r.replaced ≡ 0
+  pub old : (x : Header) (m : ℕ) → read true (open_rule kind) s ≡ got x m → x.says.edition ≤ 102 → replaced_of r ≡ 0
   -- the n bytes that were written are UTF-8
-  pub utf8 : (x : Header) (m n : ℕ) → read true (open_rule kind) s ≡ got x m → outcome_of r.answer ≡ wrote n → Utf8 (take n new) (scalars_in (field_of (number - 1) x.says.edition) x.bytes)
+  pub utf8 : (x : Header) (m n : ℕ) → read true (open_rule kind) s ≡ got x m → outcome_of r ≡ wrote n → Utf8 (take n new) (scalars_in (field_of (number - 1) x.says.edition) x.bytes)
   -- 'A genuine U+FFFD in the header is not counted': of their scalars cs, each other U+FFFD is
-  pub letters : (x : Header) (m n : ℕ) (cs : List ℕ) → read true (open_rule kind) s ≡ got x m → outcome_of r.answer ≡ wrote n → Utf8 (take n new) cs
-      → occurrences 0xFFFD cs ≡ r.replaced + genuine (field_of (number - 1) x.says.edition) x.bytes
+  pub letters : (x : Header) (m n : ℕ) (cs : List ℕ) → read true (open_rule kind) s ≡ got x m → outcome_of r ≡ wrote n → Utf8 (take n new) cs
+      → occurrences 0xFFFD cs ≡ replaced_of r + genuine (field_of (number - 1) x.says.edition) x.bytes
 
 -- ---- all texts at once
 
 -- their answer r, with the numbers beside it
-pub record GivenAll (kind : ℕ) (s : List ℕ) (r : FetchedTexts) (m : Both Texts Texts) : Type 0 where
-  pub fetches : FetchesAll r.answer m (read true (eight_rule kind) s)
-  pub counts : r.replaced ≡ all_passed kind m.entry.bytes s
+pub record GivenAll (kind : ℕ) (s : List ℕ) (r : Result FetchedTexts Refusal) (m : Both Texts Texts) : Type 0 where
+  pub fetches : FetchesAll r m (read true (eight_rule kind) s)
+  pub counts : all.replaced_of r ≡ all_passed kind m.entry.bytes s
 
-pub record TellAll (kind : ℕ) (s : List ℕ) (r : FetchedTexts) : Type 0 where
-  pub eight : length r.replaced ≡ 8
-  pub refused : (c k : ℕ) → outcome_of r.answer ≡ refuse c → get_or r.replaced k 0 ≡ 0
+pub record TellAll (kind : ℕ) (s : List ℕ) (r : Result FetchedTexts Refusal) : Type 0 where
+  pub eight : length (all.replaced_of r) ≡ 8
+  pub refused : (c k : ℕ) → all.outcome_of r ≡ refuse c → get_or (all.replaced_of r) k 0 ≡ 0
   -- each number is Fetch's, where neither is refused
-  pub each : (number n m : ℕ) (f : FetchedText) (old new : List ℕ) → 1 ≤ number → number ≤ 8 → Given kind number s f old new → outcome_of r.answer ≡ wrote n → outcome_of f.answer ≡ wrote m
-      → get_or r.replaced (number - 1) 0 ≡ f.replaced
+  pub each : (number n m : ℕ) (f : Result FetchedText Refusal) (old new : List ℕ) → 1 ≤ number → number ≤ 8 → Given kind number s f old new → all.outcome_of r ≡ wrote n → outcome_of f ≡ wrote m
+      → get_or (all.replaced_of r) (number - 1) 0 ≡ replaced_of f
 
 -- ---- the theorem
 
 pub record ReplacedLetters : Type 0 where
   pub decoder : OfUnits
-  pub fetch : (kind number : ℕ) (s : List ℕ) (r : FetchedText) (old new : List ℕ) → AreBytes s → Given kind number s r old new → Tells kind number s r new
-  pub texts : (kind : ℕ) (s : List ℕ) (r : FetchedTexts) (m : Both Texts Texts) → GivenAll kind s r m → TellAll kind s r
+  pub fetch : (kind number : ℕ) (s : List ℕ) (r : Result FetchedText Refusal) (old new : List ℕ) → AreBytes s → Given kind number s r old new → Tells kind number s r new
+  pub texts : (kind : ℕ) (s : List ℕ) (r : Result FetchedTexts Refusal) (m : Both Texts Texts) → GivenAll kind s r m → TellAll kind s r

@@ -5,6 +5,7 @@
 ghost use Rattle.texts.specs.Eight.{lent_texts};
 ghost use Rattle.letters.specs.Letters.{Given, Tells, GivenAll, TellAll, ReplacedLetters};
 
+use error::Refusal;
 use fetch::FetchedText;
 use texts::FetchedTexts;
 
@@ -14,7 +15,7 @@ pub fn replaced_letters()
 {}
 
 // Fetch a text, with what its number says: so the theorem is of the very function.
-pub fn fetch_told(kind: u8, number: u8, s: &[u8], out: &mut [u8]) -> FetchedText
+pub fn fetch_told(kind: u8, number: u8, s: &[u8], out: &mut [u8]) -> Result<FetchedText, Refusal>
     ensures given { Given kind number s.now result out.old out.new }
     ensures tells { Tells kind number s.now result out.new }
 {
@@ -22,13 +23,14 @@ pub fn fetch_told(kind: u8, number: u8, s: &[u8], out: &mut [u8]) -> FetchedText
 }
 
 // All texts at once, with what their numbers say.
+// Kept: the bytes, the starts and the lengths are parameters of their own, since C lends them so.
 pub fn texts_told(
     kind: u8,
     s: &[u8],
     out: &mut [u8],
     starts: &mut [usize; 8],
     lengths: &mut [usize; 8],
-) -> FetchedTexts
+) -> Result<FetchedTexts, Refusal>
     ensures given { GivenAll kind s.now result (lent_texts out starts lengths) }
     ensures tells { TellAll kind s.now result }
 {

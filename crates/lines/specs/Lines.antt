@@ -1,19 +1,16 @@
 -- The lines of a log: document 01, 'The log program', and request 1. A line is a letter and fields; a space ends a field, a line feed the last.
-use Rattle.std.specs.Prelude.{ℕ, List, [], ◌∷◌, ◌++◌, Float}
+use Rattle.std.specs.Prelude.{ℕ, List, [], ◌∷◌, ◌++◌, Float, Option, Some, None, Ok, Err}
 use Rattle.rules.specs.Rule.{Stop, refused, finished, more_bytes}
 use Rattle.floats.specs.Doubles.{bits_of}
-use Rattle.floats.specs.declared.Bits.{Bits}
-use Rattle.floats.specs.declared.Bits.TheVariants.{Nan, Pattern}
 use Rattle.streams.specs.declared.Record.{Record}
 use Rattle.streams.specs.declared.Record.TheVariants.{Trace, Mass, Spectrum}
-use Rattle.sums.specs.declared.Total.{Total}
-use Rattle.sums.specs.declared.Total.TheVariants.{Absent, Amount, Refused}
 use Rattle.digits.specs.Numbers.{digits, field, number, signed_number}
+use Rattle.sums.specs.Sums.{AnyTotal}
 
 -- 'as 16 hexadecimal digits of the bits, or `nan`'
-unfoldable pub bits_text : Bits → List ℕ
-bits_text Nan = 110 ∷ 97 ∷ 110 ∷ []
-bits_text (Pattern n) = digits 16 16 n
+unfoldable pub bits_text : Option ℕ → List ℕ
+bits_text None = 110 ∷ 97 ∷ 110 ∷ []
+bits_text (Some n) = digits 16 16 n
 
 abbrev pub double_text : Float → ℕ → List ℕ
 double_text x sep = field (bits_text (bits_of x)) sep
@@ -38,10 +35,10 @@ abbrev pub header_line : ℕ → ℕ → List ℕ
 header_line edition size = 104 ∷ 32 ∷ (number edition 32 ++ number size 10)
 
 -- request 1: '`t` and a decimal number'; 'where the sum is refused, the line reads `t -`'; no line where nothing was added up
-abbrev pub total_line : Total → List ℕ
-total_line Absent = []
-total_line (Amount z) = 116 ∷ 32 ∷ signed_number z 10
-total_line (Refused c) = 116 ∷ 32 ∷ field (45 ∷ []) 10
+abbrev pub total_line : AnyTotal → List ℕ
+total_line None = []
+total_line (Some (Ok z)) = 116 ∷ 32 ∷ signed_number z 10
+total_line (Some (Err c)) = 116 ∷ 32 ∷ field (45 ∷ []) 10
 
 -- *finished* is printed 0, a refusal as its number, *more bytes* as `m`
 unfoldable pub answer_text : Stop → List ℕ

@@ -1,82 +1,82 @@
-// The lines of a log, put into lent memory.
+// The lines of a log, put by a pen.
 #![tactic(auto)]
 
-ghost use Rattle.std.specs.Prelude.{◌+◌, ◌≤◌, ◌≡◌, [], ◌∷◌, length};
+ghost use Rattle.std.specs.Prelude.{◌+◌, ◌≤◌, [], ◌∷◌, length};
 ghost use Rattle.error.specs.Number.{stop_of};
-ghost use Rattle.digits.specs.Put.{Put};
+ghost use Rattle.digits.specs.Put.{Puts};
 ghost use Rattle.lines.specs.Left.{behind_text, more_text, scan_text, left_line, too_long_line};
 ghost use Rattle.lines.specs.Lines.{double_text, time_text, values_text, point_line, record_line, header_line, total_line, answer_text, end_line};
 
+use digits::Pen;
 use error::Stopped;
-use floats::Bits;
+use floats::f64_to_bits;
 use streams::Record;
 use sums::Total;
 
 // A double's bits, or nan, and what ends the field.
-pub fn put_double(out: &mut [u8], at: usize, x: f64, sep: u8) -> usize
-    requires { at + 17 ≤ length out.old }
-    ensures put { Put (double_text x sep) at out.old result out.new }
-    ensures upper_bound { result ≤ at + 17 }
+#[inline(always)]
+pub fn put_double(pen: &mut Pen<'_>, x: f64, sep: u8)
+    requires { pen.old.at + 17 ≤ length pen.old.out.now }
+    ensures put { Puts (double_text x sep) pen.old pen.new }
+    ensures upper_bound { pen.new.at ≤ pen.old.at + 17 }
 {
-    match floats::f64_to_bits(x) {
-        Bits::Pattern(n) => {
-            let a = digits::put_bits(out, at, n);
-            digits::put_byte(out, a, sep)
-        }
-        Bits::Nan => {
-            let a = digits::put_byte(out, at, b'n');
-            let b = digits::put_byte(out, a, b'a');
-            let c = digits::put_byte(out, b, b'n');
-            digits::put_byte(out, c, sep)
-        }
+    match f64_to_bits(x) {
+        Some(n) => pen.put_bits(n),
+        None => pen.put_text(b"nan"),
     }
+    pen.put_byte(sep);
 }
 
 // A line's letter.
-pub fn put_letter(out: &mut [u8], at: usize, b: u8) -> usize
-    requires { at + 2 ≤ length out.old }
-    ensures { Put (b ∷ 32 ∷ []) at out.old result out.new }
+#[inline(always)]
+pub fn put_letter(pen: &mut Pen<'_>, b: u8)
+    requires { pen.old.at + 2 ≤ length pen.old.out.now }
+    ensures { Puts (b ∷ 32 ∷ []) pen.old pen.new }
 {
-    let a = digits::put_byte(out, at, b);
-    digits::put_byte(out, a, b' ')
+    pen.put_byte(b);
+    pen.put_byte(b' ');
 }
 
 // The letter and the time of a record.
-fn put_time(out: &mut [u8], at: usize, t: f64) -> usize
-    requires { at + 19 ≤ length out.old }
-    ensures put { Put (time_text t) at out.old result out.new }
-    ensures upper_bound { result ≤ at + 19 }
+#[inline(always)]
+fn put_time(pen: &mut Pen<'_>, t: f64)
+    requires { pen.old.at + 19 ≤ length pen.old.out.now }
+    ensures put { Puts (time_text t) pen.old pen.new }
+    ensures upper_bound { pen.new.at ≤ pen.old.at + 19 }
 {
-    let a = put_letter(out, at, b'r');
-    put_double(out, a, t, b' ')
+    put_letter(pen, b'r');
+    put_double(pen, t, b' ');
 }
 
 // The values of a record, unscaled and scaled, to the end of its line.
-fn put_values(out: &mut [u8], at: usize, u: f64, s: f64) -> usize
-    requires { at + 34 ≤ length out.old }
-    ensures put { Put (values_text u s) at out.old result out.new }
-    ensures upper_bound { result ≤ at + 34 }
+#[inline(always)]
+fn put_values(pen: &mut Pen<'_>, u: f64, s: f64)
+    requires { pen.old.at + 34 ≤ length pen.old.out.now }
+    ensures put { Puts (values_text u s) pen.old pen.new }
+    ensures upper_bound { pen.new.at ≤ pen.old.at + 34 }
 {
-    let a = put_double(out, at, u, b' ');
-    put_double(out, a, s, b'\n')
+    put_double(pen, u, b' ');
+    put_double(pen, s, b'\n');
 }
 
 // The line of a record on an axis.
-fn put_point(out: &mut [u8], at: usize, t: f64, x: f64, u: f64, s: f64) -> usize
-    requires { at + 70 ≤ length out.old }
-    ensures put { Put (point_line t x u s) at out.old result out.new }
-    ensures upper_bound { result ≤ at + 70 }
+#[inline(always)]
+fn put_point(pen: &mut Pen<'_>, t: f64, x: f64, u: f64, s: f64)
+    requires { pen.old.at + 70 ≤ length pen.old.out.now }
+    ensures put { Puts (point_line t x u s) pen.old pen.new }
+    ensures upper_bound { pen.new.at ≤ pen.old.at + 70 }
 {
-    let a = put_time(out, at, t);
-    let b = put_double(out, a, x, b' ');
-    put_values(out, b, u, s)
+    put_time(pen, t);
+    put_double(pen, x, b' ');
+    put_values(pen, u, s);
 }
 
 // The line of a record.
-pub fn put_record(out: &mut [u8], at: usize, r: Record) -> usize
-    requires { at + 70 ≤ length out.old }
-    ensures put { Put (record_line r) at out.old result out.new }
-    ensures upper_bound { result ≤ at + 70 }
+#[inline(always)]
+pub fn put_record(pen: &mut Pen<'_>, r: Record)
+    requires { pen.old.at + 70 ≤ length pen.old.out.now }
+    ensures put { Puts (record_line r) pen.old pen.new }
+    ensures upper_bound { pen.new.at ≤ pen.old.at + 70 }
 {
     match r {
         Record::Trace {
@@ -84,9 +84,9 @@ pub fn put_record(out: &mut [u8], at: usize, r: Record) -> usize
             unscaled,
             scaled,
         } => {
-            let a = put_time(out, at, time);
-            let b = put_letter(out, a, b'-');
-            put_values(out, b, unscaled, scaled)
+            put_time(pen, time);
+            put_letter(pen, b'-');
+            put_values(pen, unscaled, scaled);
         }
         Record::Mass {
             time,
@@ -94,141 +94,122 @@ pub fn put_record(out: &mut [u8], at: usize, r: Record) -> usize
             unscaled,
             scaled,
             ..
-        } => put_point(out, at, time, mz, unscaled, scaled),
+        } => put_point(pen, time, mz, unscaled, scaled),
         Record::Spectrum {
             time,
             wavelength,
             unscaled,
             scaled,
             ..
-        } => put_point(out, at, time, wavelength, unscaled, scaled),
+        } => put_point(pen, time, wavelength, unscaled, scaled),
     }
 }
 
 // The line of a header.
-pub fn put_header(out: &mut [u8], at: usize, edition: u32, size: usize) -> usize
-    requires { at + 44 ≤ length out.old }
-    ensures put { Put (header_line edition size) at out.old result out.new }
-    ensures upper_bound { result ≤ at + 44 }
+pub fn put_header(pen: &mut Pen<'_>, edition: u32, size: usize)
+    requires { pen.old.at + 44 ≤ length pen.old.out.now }
+    ensures put { Puts (header_line edition size) pen.old pen.new }
+    ensures upper_bound { pen.new.at ≤ pen.old.at + 44 }
 {
-    let a = put_letter(out, at, b'h');
-    let b = digits::put_number(out, a, edition as u64, b' ');
-    digits::put_number(out, b, size as u64, b'\n')
+    put_letter(pen, b'h');
+    pen.put_number(u64::from(edition), b' ');
+    pen.put_number(size as u64, b'\n');
 }
 
 // The line of a total, if there is one.
-pub fn put_total(out: &mut [u8], at: usize, t: Total) -> usize
-    requires { at + 24 ≤ length out.old }
-    ensures put { Put (total_line t) at out.old result out.new }
-    ensures upper_bound { result ≤ at + 24 }
+pub fn put_total(pen: &mut Pen<'_>, t: Total)
+    requires { pen.old.at + 24 ≤ length pen.old.out.now }
+    ensures put { Puts (total_line t) pen.old pen.new }
+    ensures upper_bound { pen.new.at ≤ pen.old.at + 24 }
 {
     match t {
-        Total::Absent => at,
-        Total::Amount(n) => {
-            let a = put_letter(out, at, b't');
-            digits::put_signed(out, a, n, b'\n')
+        None => {}
+        Some(Ok(n)) => {
+            put_letter(pen, b't');
+            pen.put_signed(n, b'\n');
         }
-        Total::Refused(_) => {
-            let a = put_letter(out, at, b't');
-            let b = digits::put_byte(out, a, b'-');
-            digits::put_byte(out, b, b'\n')
-        }
+        Some(Err(_)) => pen.put_text(b"t -\n"),
     }
 }
 
 // The closing answer, and what ends its field.
-fn put_answer(out: &mut [u8], at: usize, z: Stopped) -> usize
-    requires { at + 21 ≤ length out.old }
-    ensures put { Put (answer_text (stop_of z)) at out.old result out.new }
-    ensures upper_bound { result ≤ at + 21 }
+fn put_answer(pen: &mut Pen<'_>, z: Stopped)
+    requires { pen.old.at + 21 ≤ length pen.old.out.now }
+    ensures put { Puts (answer_text (stop_of z)) pen.old pen.new }
+    ensures upper_bound { pen.new.at ≤ pen.old.at + 21 }
 {
     match z {
-        Stopped::Finished => digits::put_number(out, at, 0, b' '),
-        Stopped::Refused(c) => digits::put_number(out, at, error::number_of(c) as u64, b' '),
-        Stopped::MoreBytes => put_letter(out, at, b'm'),
+        Stopped::Finished => pen.put_number(0, b' '),
+        Stopped::Refused(c) => pen.put_number(u64::from(u8::from(c)), b' '),
+        Stopped::MoreBytes => put_letter(pen, b'm'),
     }
 }
 
 // The line that closes a log.
-pub fn put_end(out: &mut [u8], at: usize, z: Stopped, count: usize) -> usize
-    requires { at + 44 ≤ length out.old }
-    ensures put { Put (end_line (stop_of z) count) at out.old result out.new }
-    ensures upper_bound { result ≤ at + 44 }
+pub fn put_end(pen: &mut Pen<'_>, z: Stopped, count: usize)
+    requires { pen.old.at + 44 ≤ length pen.old.out.now }
+    ensures put { Puts (end_line (stop_of z) count) pen.old pen.new }
+    ensures upper_bound { pen.new.at ≤ pen.old.at + 44 }
 {
-    let a = put_letter(out, at, b'e');
-    let b = put_answer(out, a, z);
-    digits::put_number(out, b, count as u64, b'\n')
+    put_letter(pen, b'e');
+    put_answer(pen, z);
+    pen.put_number(count as u64, b'\n');
 }
 
 // ---- what is told on standard error
 
-// A text.
-fn put_text(out: &mut [u8], at: usize, text: &[u8]) -> usize
-    requires { at + length text.now ≤ length out.old }
-    ensures put { Put text.now at out.old result out.new }
-    ensures value { result ≡ at + length text.now }
-{
-    let mut a = at;
-    let mut i: usize = 0;
-    while i < text.len() {
-        a = digits::put_byte(out, a, text[i]);
-        i += 1;
-    }
-    a
-}
-
 // So many bytes stand in the buffer behind the end of the run.
-fn put_behind(out: &mut [u8], at: usize, behind: usize) -> usize
-    requires { at + 67 ≤ length out.old }
-    ensures put { Put (behind_text behind) at out.old result out.new }
-    ensures upper_bound { result ≤ at + 67 }
+fn put_behind(pen: &mut Pen<'_>, behind: usize)
+    requires { pen.old.at + 67 ≤ length pen.old.out.now }
+    ensures put { Puts (behind_text behind) pen.old pen.new }
+    ensures upper_bound { pen.new.at ≤ pen.old.at + 67 }
 {
-    let a = digits::put_number(out, at, behind as u64, b' ');
-    put_text(out, a, b"bytes in the buffer behind the end of the run\n")
+    pen.put_number(behind as u64, b' ');
+    pen.put_text(b"bytes in the buffer behind the end of the run\n");
 }
 
 // What follows the bytes of the last scan.
-fn put_more(out: &mut [u8], at: usize, behind: usize) -> usize
-    requires { at + 69 ≤ length out.old }
-    ensures put { Put (more_text behind) at out.old result out.new }
-    ensures upper_bound { result ≤ at + 69 }
+fn put_more(pen: &mut Pen<'_>, behind: usize)
+    requires { pen.old.at + 69 ≤ length pen.old.out.now }
+    ensures put { Puts (more_text behind) pen.old pen.new }
+    ensures upper_bound { pen.new.at ≤ pen.old.at + 69 }
 {
     if behind == 0 {
-        return digits::put_byte(out, at, b'\n');
+        return pen.put_byte(b'\n');
     }
-    let a = put_text(out, at, b", ");
-    put_behind(out, a, behind)
+    pen.put_text(b", ");
+    put_behind(pen, behind);
 }
 
 // The bytes left of the last scan, and those behind it.
-fn put_scan(out: &mut [u8], at: usize, scan: usize, behind: usize) -> usize
-    requires { at + 112 ≤ length out.old }
-    ensures put { Put (scan_text scan behind) at out.old result out.new }
-    ensures upper_bound { result ≤ at + 112 }
+fn put_scan(pen: &mut Pen<'_>, scan: usize, behind: usize)
+    requires { pen.old.at + 112 ≤ length pen.old.out.now }
+    ensures put { Puts (scan_text scan behind) pen.old pen.new }
+    ensures upper_bound { pen.new.at ≤ pen.old.at + 112 }
 {
     if scan == 0 {
-        return put_behind(out, at, behind);
+        return put_behind(pen, behind);
     }
-    let a = digits::put_number(out, at, scan as u64, b' ');
-    let b = put_text(out, a, b"bytes of the last scan");
-    put_more(out, b, behind)
+    pen.put_number(scan as u64, b' ');
+    pen.put_text(b"bytes of the last scan");
+    put_more(pen, behind);
 }
 
 // The line that tells what is left where a run closes with 0.
-pub fn put_left(out: &mut [u8], at: usize, scan: usize, behind: usize) -> usize
-    requires { at + 128 ≤ length out.old }
-    ensures put { Put (left_line scan behind) at out.old result out.new }
-    ensures upper_bound { result ≤ at + 128 }
+pub fn put_left(pen: &mut Pen<'_>, scan: usize, behind: usize)
+    requires { pen.old.at + 128 ≤ length pen.old.out.now }
+    ensures put { Puts (left_line scan behind) pen.old pen.new }
+    ensures upper_bound { pen.new.at ≤ pen.old.at + 128 }
 {
-    let a = put_text(out, at, b"left: ");
-    put_scan(out, a, scan, behind)
+    pen.put_text(b"left: ");
+    put_scan(pen, scan, behind);
 }
 
 // The line that tells that the input was too long.
-pub fn put_too_long(out: &mut [u8], at: usize) -> usize
-    requires { at + 128 ≤ length out.old }
-    ensures put { Put too_long_line at out.old result out.new }
-    ensures upper_bound { result ≤ at + 128 }
+pub fn put_too_long(pen: &mut Pen<'_>)
+    requires { pen.old.at + 128 ≤ length pen.old.out.now }
+    ensures put { Puts too_long_line pen.old pen.new }
+    ensures upper_bound { pen.new.at ≤ pen.old.at + 128 }
 {
-    put_text(out, at, b"the log is too long\n")
+    pen.put_text(b"the log is too long\n");
 }

@@ -1,5 +1,5 @@
 -- What the log program does with its input and output.
-use Rattle.std.specs.Prelude.{ℕ, ◌+◌, ◌-◌, ◌≤◌, ◌≡◌, List, [], ◌++◌, length, take, Some, codes}
+use Rattle.std.specs.Prelude.{ℕ, ◌+◌, ◌-◌, ◌≤◌, ◌≡◌, List, [], ◌++◌, length, take, Some, Result, Ok, Err, codes}
 use Rattle.std.specs.declared.option.Option.{Option}
 use Rattle.streams.specs.declared.Mode.{Mode}
 use Rattle.streams.specs.declared.Mode.TheVariants.{Plain, Atlas}
@@ -11,6 +11,11 @@ use Rattle.runs.specs.Whole.{LogOfInput}
 abbrev pub name_of : Mode → List ℕ
 name_of Plain = codes "chemlog: "
 name_of Atlas = codes "atlaslog: "
+
+-- where a run stands, whether all was done or not
+abbrev pub place_of : Result Place Place → Place
+place_of (Ok p) = p
+place_of (Err p) = p
 
 -- a part of the bytes that are left came behind the first n of the buffer, none only at their end, and the run is told of it
 pub record TookPart (q : Place) (n : ℕ) (old new : List ℕ) (left : List ℕ) (after : Option (List ℕ)) (p : Place) : Type 0 where

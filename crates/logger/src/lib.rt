@@ -1,12 +1,12 @@
 // The log program's input and output: what the machine asks for is read and written.
 #![tactic(auto)]
 
-ghost use Rattle.std.specs.Prelude.{ℕ, ◌≤◌, ◌<◌, ◌≡◌, List, length, take, IsTrue, IfSome, IsOk, ◌++◌};
+ghost use Rattle.std.specs.Prelude.{ℕ, ◌≤◌, ◌<◌, ◌≡◌, List, length, take, IsTrue, IfSome, IfOk, IsOk, ◌++◌};
 ghost use Rattle.std.specs.Io.KnownBytes.{Appends};
 ghost use Rattle.places.specs.declared.Ask.TheVariants as ask;
 ghost use Rattle.places.specs.Machine.{most};
 ghost use Rattle.runs.specs.Whole.{weight, Falls};
-ghost use Rattle.logger.specs.Shell.{name_of, TookPart, Logged};
+ghost use Rattle.logger.specs.Shell.{name_of, place_of, TookPart, Logged};
 
 use places::{Ask, Place};
 use std::io;
@@ -36,78 +36,65 @@ fn put_words(e: &io::Error, words: &mut [u8]) -> usize
     words_end(&words[..n])
 }
 
+// The name of the program that reads so, before what it tells.
+fn name(mode: Mode) -> &'static [u8]
+    ensures { result.now ≡ name_of mode }
+{
+    match mode {
+        Mode::Plain => b"chemlog: ",
+        Mode::Atlas => b"atlaslog: ",
+    }
+}
+
 // Tells what failed and why, in a line.
-fn fail<E: Write>(errors: &mut E, what: &[u8], e: &io::Error) {
+fn fail<E: Write>(mode: Mode, errors: &mut E, what: &[u8], e: &io::Error) {
     let mut words = [0u8; WORDS];
     let n = put_words(e, &mut words);
+    let _ = errors.write_all(name(mode));
     let _ = errors.write_all(what);
     let _ = errors.write_all(b": ");
     let _ = errors.write_all(&words[..n]);
     let _ = errors.write_all(b"\n");
 }
 
-// Tells that standard input could not be read, by the name of the program that reads so.
-fn tell_input<E: Write>(mode: Mode, errors: &mut E, e: &io::Error) {
-    match mode {
-        Mode::Plain => fail(errors, b"chemlog: standard input", e),
-        Mode::Atlas => fail(errors, b"atlaslog: standard input", e),
-    }
-}
+// Where a run stands behind what it asked for; an Err where that was not done whole: the run is then over, and what stands in the
+// output buffer may still be written.
+type Stand = Result<Place, Place>;
 
-// Tells that a text could not be written.
-fn tell_output<E: Write>(mode: Mode, errors: &mut E, e: &io::Error) {
-    match mode {
-        Mode::Plain => fail(errors, b"chemlog: standard output", e),
-        Mode::Atlas => fail(errors, b"atlaslog: standard output", e),
-    }
-}
-
-// Reads behind the first n bytes. A read that fails is told on standard error, and ends the run: then not all was read.
+// Reads behind the first n bytes. A read that fails is told on standard error, and ends the run.
 fn read_more<R: Read, E: Write>(
     mode: Mode,
     input: &mut R,
     errors: &mut E,
-    whole: &mut bool,
     q: Place,
     n: usize,
     buf: &mut [u8],
-) -> Place
+) -> Stand
     requires { n < length buf.old }
-    ensures falls { (p : Place) (old text : List ℕ) → Falls p old text (ask.Read q n) → weight result < weight p }
-    ensures before { IsTrue whole.new → IsTrue whole.old }
-    ensures took { IsTrue whole.new → IfSome (R.remaining input.old)
-        (λ xs. TookPart q n buf.old buf.new xs (R.remaining input.new) result) }
+    ensures falls { (p : Place) (old text : List ℕ) → Falls p old text (ask.Read q n) → weight (place_of result) < weight p }
+    ensures took { IfOk result (λ r. IfSome (R.remaining input.old)
+        (λ xs. TookPart q n buf.old buf.new xs (R.remaining input.new) r)) }
 {
     match input.read(&mut buf[n..]) {
-        Ok(k) => places::took(q, k, buf),
+        Ok(k) => Ok(q.took(k, buf)),
         Err(e) => {
-            *whole = false;
-            tell_input(mode, errors, &e);
-            places::read_failed(q)
+            fail(mode, errors, b"standard input", &e);
+            Err(q.over())
         }
     }
 }
 
-// Where a run stands when a text was written, or not. What could not be written is told on standard error, and ends the run: then
-// not all was written.
-fn written<E: Write>(
-    mode: Mode,
-    errors: &mut E,
-    whole: &mut bool,
-    q: Place,
-    done: io::Result<()>,
-) -> Place
-    ensures falls { (p : Place) → weight q < weight p → weight result < weight p }
-    ensures before { IsTrue whole.new → IsTrue whole.old }
-    ensures ok { IsTrue whole.new → IsOk done × (result ≡ q) }
+// Where a run stands when a text was written, or not. What could not be written is told on standard error, and ends the run.
+fn written<E: Write>(mode: Mode, errors: &mut E, q: Place, done: io::Result<()>) -> Stand
+    ensures falls { (p : Place) → weight q < weight p → weight (place_of result) < weight p }
+    ensures ok { IfOk result (λ r. IsOk done × (r ≡ q)) }
     ensures same { IsOk done → errors.new ≡ errors.old }
 {
     match done {
-        Ok(()) => places::wrote(q, true),
+        Ok(()) => Ok(q.wrote(true)),
         Err(e) => {
-            *whole = false;
-            tell_output(mode, errors, &e);
-            places::wrote(q, false)
+            fail(mode, errors, b"standard output", &e);
+            Err(q.wrote(false))
         }
     }
 }
@@ -117,51 +104,31 @@ fn write_out<W: Write, E: Write>(
     mode: Mode,
     output: &mut W,
     errors: &mut E,
-    whole: &mut bool,
     q: Place,
     n: usize,
     out: &[u8],
-) -> Place
+) -> Stand
     requires { n ≤ length out.now }
-    ensures falls { (p : Place) → weight q < weight p → weight result < weight p }
-    ensures before { IsTrue whole.new → IsTrue whole.old }
-    ensures wrote { IsTrue whole.new → Appends (W.contents output.old) (W.contents output.new) (take n out.now) × (result ≡ q) }
+    ensures falls { (p : Place) → weight q < weight p → weight (place_of result) < weight p }
+    ensures wrote { IfOk result (λ r. Appends (W.contents output.old) (W.contents output.new) (take n out.now) × (r ≡ q)) }
 {
-    let done = output.write_all(&out[0..n]);
-    written(mode, errors, whole, q, done)
-}
-
-// The name of the program that reads so, before what it tells.
-fn tell_name<E: Write>(mode: Mode, errors: &mut E, whole: &mut bool)
-    ensures before { IsTrue whole.new → IsTrue whole.old }
-    ensures told { IsTrue whole.new → Appends (E.contents errors.old) (E.contents errors.new) (name_of mode) }
-{
-    let done = match mode {
-        Mode::Plain => errors.write_all(b"chemlog: "),
-        Mode::Atlas => errors.write_all(b"atlaslog: "),
-    };
-    if done.is_err() {
-        *whole = false;
-    }
+    let done = output.write_all(&out[..n]);
+    written(mode, errors, q, done)
 }
 
 // Tells the first n bytes on standard error, behind the program's name.
-fn tell<E: Write>(
-    mode: Mode,
-    errors: &mut E,
-    whole: &mut bool,
-    q: Place,
-    n: usize,
-    out: &[u8],
-) -> Place
+fn tell<E: Write>(mode: Mode, errors: &mut E, q: Place, n: usize, out: &[u8]) -> Stand
     requires { n ≤ length out.now }
-    ensures falls { (p : Place) → weight q < weight p → weight result < weight p }
-    ensures before { IsTrue whole.new → IsTrue whole.old }
-    ensures told { IsTrue whole.new → Appends (E.contents errors.old) (E.contents errors.new) (name_of mode ++ take n out.now) × (result ≡ q) }
+    ensures falls { (p : Place) → weight q < weight p → weight (place_of result) < weight p }
+    ensures told { IfOk result (λ r. Appends (E.contents errors.old) (E.contents errors.new) (name_of mode ++ take n out.now) × (r ≡ q)) }
 {
-    tell_name(mode, errors, whole);
-    let done = errors.write_all(&out[0..n]);
-    written(mode, errors, whole, q, done)
+    let named = errors.write_all(name(mode));
+    let done = errors.write_all(&out[..n]);
+    let after = written(mode, errors, q, done)?;
+    match named {
+        Ok(()) => Ok(after),
+        Err(_) => Err(after),
+    }
 }
 
 // The whole program, by a reading. Answers whether all was read and written; then what was written is the log of the input.
@@ -178,13 +145,20 @@ pub fn log_input<R: Read, W: Write, E: Write>(
         IfSome (W.contents output.old) (λ ys. Logged mode (length buf.old) xs ys (W.contents output.new))) }
 {
     let mut whole = true;
-    let mut p = places::start(mode);
+    let mut p = Place::start(mode);
     loop {
-        p = match machine::step(p, buf, out) {
+        let after = match machine::step(p, buf, out) {
             Ask::Closed => return whole,
-            Ask::Write(q, n) => write_out(mode, output, errors, &mut whole, q, n, out),
-            Ask::Tell(q, n) => tell(mode, errors, &mut whole, q, n, out),
-            Ask::Read(q, n) => read_more(mode, input, errors, &mut whole, q, n, buf),
+            Ask::Write(q, n) => write_out(mode, output, errors, q, n, out),
+            Ask::Tell(q, n) => tell(mode, errors, q, n, out),
+            Ask::Read(q, n) => read_more(mode, input, errors, q, n, buf),
+        };
+        p = match after {
+            Ok(q) => q,
+            Err(q) => {
+                whole = false;
+                q
+            }
         };
     }
 }

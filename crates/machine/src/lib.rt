@@ -9,11 +9,10 @@ ghost use Rattle.modes.specs.Modes.{open_by};
 ghost use Rattle.runlog.specs.Log.{first_total};
 ghost use Rattle.places.specs.Machine.{at_hand, fits, goes_on, logs_records, opens, step_of, IsStep};
 
+use digits::Pen;
 use error::Stopped;
 use modes::open_by;
-use opening::Opening;
-use places::{Ask, Phase, Place, close, moves, refill, write};
-use reader::Closing;
+use places::{Ask, Phase, Place};
 use streams::{Mode, State};
 use sums::Total;
 
@@ -22,12 +21,10 @@ fn go_on(p: Place, st: State, z: Stopped, buf: &mut [u8], out: &mut [u8]) -> Ask
     requires { (p.from ≤ p.to) × (p.to ≤ length buf.old) × (p.at + 68 ≤ length out.old) }
     ensures { IsStep (goes_on p st (stopped (stop_of z)) buf.old out.old) result buf.new out.new }
 {
-    let from = p.from;
-    let to = p.to;
     match z {
-        Stopped::MoreBytes => refill(p, buf, out),
-        Stopped::Finished => places::end(p, st, &buf[from..to], out),
-        Stopped::Refused(_) => close(p, Phase::Over, z, out),
+        Stopped::MoreBytes => p.refill(buf, out),
+        Stopped::Finished => p.end(st, &buf[p.from..p.to], out),
+        Stopped::Refused(_) => p.close(Phase::Over, z, out),
     }
 }
 
@@ -36,34 +33,39 @@ fn log_hand(st: State, p: Place, buf: &mut [u8], out: &mut [u8]) -> Ask
     requires { (p.from ≤ p.to) × (p.to ≤ length buf.old) × (p.at ≤ length out.old) }
     ensures { IsStep (logs_records st p buf.old out.old) result buf.new out.new }
 {
-    let from = p.from;
-    let to = p.to;
-    let before = p.total;
-    let w = runlog::log_records(st, &buf[from..to], 0, p.last, out, p.at, before);
-    let left = from + w.from;
+    let hand = &buf[p.from..p.to];
+    let mut pen = Pen { out, at: p.at };
+    let w = runlog::log_records(st, hand, 0, p.last, &mut pen, p.total);
+    let left = p.from + w.from;
     if w.count > usize::MAX - p.count {
-        let q = moves(p, Phase::TooLong, left, to, w.at, p.count);
-        return write(q);
+        let q = Place {
+            phase: Phase::TooLong,
+            from: left,
+            at: pen.at,
+            ..p
+        };
+        return q.write();
     }
-    let state = w.state;
-    let total = w.total;
-    let m = moves(p, Phase::Records(state), left, to, w.at, p.count + w.count);
-    let q = places::totals(m, total);
-    let closing = w.closing;
-    match closing {
-        Closing::Full => write(q),
-        Closing::Stopped(z) => go_on(q, state, z, buf, out),
+    let q = Place {
+        phase: Phase::Records(w.state),
+        from: left,
+        at: pen.at,
+        count: p.count + w.count,
+        total: w.total,
+        ..p
+    };
+    match w.closing {
+        Ok(()) => q.write(),
+        Err(z) => go_on(q, w.state, z, buf, pen.out),
     }
 }
 
 // The total before the first record: an array's values are not added up.
+// Kept: (d) a kind is any number until the run is opened: an enum would have to be made of it first, and 6 is named once.
 fn first_total(kind: u8) -> Total
     ensures { result ≡ first_total kind }
 {
-    if kind == 6 {
-        return Total::Absent;
-    }
-    Total::Amount(0)
+    if kind == 6 { None } else { Some(Ok(0)) }
 }
 
 // Opens the run by its reading, and logs the records at hand behind its header.
@@ -71,22 +73,22 @@ fn open(mode: Mode, kind: u8, p: Place, buf: &mut [u8], out: &mut [u8]) -> Ask
     requires { (p.from ≤ p.to) × (p.to ≤ length buf.old) × (p.at + 68 ≤ length out.old) }
     ensures { IsStep (opens mode kind p buf.old out.old (read p.last (open_by mode kind) (at_hand buf.old p))) result buf.new out.new }
 {
-    let from = p.from;
-    let to = p.to;
-    let o = open_by(mode, kind, &buf[from..to], p.last);
-    let answer = o.answer;
-    let d = o.metadata;
-    match answer {
-        Opening::Stopped(z) => match z {
-            Stopped::MoreBytes => refill(p, buf, out),
-            Stopped::Finished => close(p, Phase::Over, z, out),
-            Stopped::Refused(_) => close(p, Phase::Over, z, out),
+    match open_by(mode, kind, &buf[p.from..p.to], p.last) {
+        Err(z) => match z {
+            Stopped::MoreBytes => p.refill(buf, out),
+            Stopped::Finished | Stopped::Refused(_) => p.close(Phase::Over, z, out),
         },
-        Opening::Run(st, n) => {
-            let at = lines::put_header(out, p.at, d.edition, d.size);
-            let m = moves(p, Phase::Records(st), from + n, to, at, p.count);
-            let q = places::totals(m, first_total(kind));
-            log_hand(st, q, buf, out)
+        Ok(run) => {
+            let mut pen = Pen { out, at: p.at };
+            lines::put_header(&mut pen, run.metadata.edition, run.metadata.size);
+            let q = Place {
+                phase: Phase::Records(run.state),
+                from: p.from + run.size,
+                at: pen.at,
+                total: first_total(kind),
+                ..p
+            };
+            log_hand(run.state, q, buf, pen.out)
         }
     }
 }
@@ -95,8 +97,7 @@ fn open(mode: Mode, kind: u8, p: Place, buf: &mut [u8], out: &mut [u8]) -> Ask
 fn in_bounds(p: Place, buf: &[u8], out: &[u8]) -> bool
     ensures { result ≡ fits p buf.now out.now }
 {
-    p.from <= p.to
-        && (p.to <= buf.len() && (p.at <= out.len() && (1 <= buf.len() && 128 <= out.len())))
+    p.from <= p.to && p.to <= buf.len() && p.at <= out.len() && 1 <= buf.len() && 128 <= out.len()
 }
 
 // One step of a run: what it asks for, and where it stands then. A place that lies outside the buffers is closed.
@@ -107,15 +108,12 @@ pub fn step(p: Place, buf: &mut [u8], out: &mut [u8]) -> Ask
         return Ask::Closed;
     }
     if out.len() - p.at < 70 {
-        return write(p);
+        return p.write();
     }
-    let phase = p.phase;
-    match phase {
-        Phase::Digit(mode) => places::first(mode, p, out),
+    match p.phase {
+        Phase::Digit(mode) => p.first(mode, out),
         Phase::Header(mode, kind) => open(mode, kind, p, buf, out),
         Phase::Records(st) => log_hand(st, p, buf, out),
-        Phase::Ended(_, _) => places::after(p, out),
-        Phase::TooLong => places::after(p, out),
-        Phase::Over => places::after(p, out),
+        Phase::Ended(_, _) | Phase::TooLong | Phase::Over => p.after(out),
     }
 }

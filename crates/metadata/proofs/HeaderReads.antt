@@ -5,28 +5,24 @@ use mathlib.Core.List.{List, [], ◌∷◌}
 use Prim.Native.Nat.{ℕ, zero, suc, ◌≤◌, ◌<◌}
 use native.Mathlib.Omega.{arith}
 use lib.Dec.{leb, eqb}
-use lib.Ieee.{Float}
 use lib.ListN.{length, get_or, take}
 use borrow.Author.Tests.{leb-true, eqb-false}
+use Rattle.std.specs.Prelude.{Option, Some, None, Result, Ok, Err}
 use Rattle.rules.specs.Rule.{gives, finished, got, stops, read}
 use Rattle.error.specs.Number.{stop_of}
 use Rattle.error.specs.declared.Stopped.{Stopped}
 use Rattle.common.specs.Bytes.{be, part}
 use Rattle.floats.specs.Doubles.{scan_count_of}
-use Rattle.floats.specs.declared.ScanCount.{ScanCount}
-use Rattle.floats.specs.declared.ScanCount.TheVariants.{TooMany, Count}
-use Rattle.trim.specs.declared.Trimmed.{Trimmed}
-use Rattle.trim.specs.declared.Trimmed.TheVariants.{NotUtf8, At}
+use Rattle.trim.specs.declared.Extent.{Extent}
 use Rattle.agilent.specs.Header.{known, header_rule}
 use Rattle.layouts.specs.Table.{Entry, look, minima, texts, field_of}
 use Rattle.pascal.specs.Texts.{Place, trimmed_from, pascal, text_rule, reach}
-use Rattle.metadata.specs.Metadata.{starts_of, lengths_of, texts_rule, described_by, metadata_rule, count_rule, quotient_of, array_scans, scans_rule, Header, open_rule, header_read, Opens}
+use Rattle.metadata.specs.Metadata.{starts_of, lengths_of, texts_rule, described_by, metadata_rule, count_rule, quotient_of, array_scans, scans_rule, Header, after_bytes, open_rule, header_read}
 use Rattle.pascal.specs.declared.TextField.{TextField}
 use Rattle.pascal.specs.declared.TextField.TheVariants.{Absent, Pascal, PascalToEnd, Utf16}
 use Rattle.metadata.specs.declared.ChemstationMetadata.{ChemstationMetadata}
-use Rattle.metadata.specs.declared.Opened.TheVariants as opened
 use Rattle.metadata.specs.declared.OpenedHeader.{OpenedHeader}
-use Rattle.metadata.proofs.Orderly.{Orderly, giving, refusing, asking, Any, proper, itself, next, then, tested, checked}
+use Rattle.metadata.proofs.Orderly.{Orderly, giving, refusing, asking, Any, proper, outcome, itself, next, then, tested, checked}
 use Rattle.layouts.proofs.Tables.{field_lies}
 
 -- ---- the description: what holds of each text holds of the eight
@@ -56,9 +52,9 @@ module _ (h : List ℕ) (P : TextField → Place → Type 0) (text : (f : TextFi
       then (search checked) λ _. next (tested (leb (look 0 minima e) (length h)) 6) λ _ m.
       next (each_text e texts λ k l. omega (arith, field_lies k e, leb-true (look 0 minima e) (length h) m)) λ ps x. giving x
 
-any_trimmed : (from : ℕ) (t : Trimmed) → Orderly false Any (trimmed_from from t)
-any_trimmed from NotUtf8 = refusing
-any_trimmed from (At p n) = giving tt
+any_trimmed : (from : ℕ) (t : Option Extent) → Orderly false Any (trimmed_from from t)
+any_trimmed from None = refusing
+any_trimmed from (Some e) = giving tt
 
 any_text : (h : List ℕ) (f : TextField) → Orderly false Any (text_rule f h)
 unfolding text_rule pascal
@@ -69,11 +65,11 @@ any_text h (Utf16 start) = giving tt
 
 -- ---- the rule of Open
 
-count : {Q : Type 0} → Q → (x : ScanCount) → Orderly true (λ _. Q) (count_rule x)
-count q TooMany = refusing
-count q (Count n) = giving q
+count : {fields : Bool} {Q : Type 0} → Q → (x : Option ℕ) → Orderly fields (λ _. Q) (count_rule x)
+count q None = refusing
+count q (Some n) = giving q
 
-scans_by_lem : (b : Bool) (kind : ℕ) (d : ChemstationMetadata) (h : List ℕ) → eqb kind 6 ≡ b → Orderly true (λ _. kind ≡ 6 → 4126 ≤ length h) (scans_rule kind d h)
+scans_by_lem : {fields : Bool} (b : Bool) (kind : ℕ) (d : ChemstationMetadata) (h : List ℕ) → eqb kind 6 ≡ b → Orderly fields (λ _. kind ≡ 6 → 4126 ≤ length h) (scans_rule kind d h)
 unfolding array_scans
 scans_by_lem true kind d h e = rw e (next (tested (leb 4126 (length h)) 9) λ _ l. count (λ _. leb-true 4126 (length h) l) (scan_count_of (quotient_of d h)))
 scans_by_lem false kind d h e = rw e (giving λ six. absurd (eqb-false kind 6 e six))
@@ -97,22 +93,36 @@ opening kind =
     next (header kind) λ h e. next (itself (metadata_orderly h (λ f p. Unit) (λ f _. any_text h f) tt)) λ d q. next (scans_by_lem (eqb kind 6) kind d h refl) λ n l.
     let k = (and-eq-true_iff (leb 1 kind) (leb kind 6)).0 e in giving (record { low = leb-true 1 kind k.0; high = leb-true kind 6 k.1; described = q; step = l })
 
+-- ---- the size that a description says
+
+any_texts : (e : ℕ) (h : List ℕ) (ts : List (List (Entry TextField))) → Orderly false Any (texts_rule e h ts)
+unfolding texts_rule
+any_texts e h [] = giving tt
+any_texts e h (t ∷ ts) = then (any_text h (look Absent t e)) λ p. then (any_texts e h ts) λ ps. giving tt
+
+sized : (h : List ℕ) → Orderly false (λ d. d.size ≡ length h) (metadata_rule h)
+unfolding metadata_rule described_by
+sized h = then (search checked) λ _. then (search checked) λ _. then (any_texts (be (part 248 4 h)) h texts) λ ps. giving refl
+
+pub says_size : (kind : ℕ) (h : List ℕ) {x : Header} → after_bytes kind h ≡ gives x → x.says.size ≡ length h
+says_size kind h e = outcome (λ (x : Header). x.says.size ≡ length h) (next (sized h) λ d q. next (scans_by_lem (eqb kind 6) kind d h refl) λ n l. giving q) e
+
 -- ---- what the answer says
 
-module _ (last : Bool) (kind : ℕ) (s : List ℕ) (r : OpenedHeader) (o : Opens s (read last (open_rule kind) s) r) where
-  module _ {z : Stopped} (e : r.answer ≡ opened.Stopped z) where
+module _ (last : Bool) (kind : ℕ) (s : List ℕ) (r : Result OpenedHeader Stopped) (o : header_read s r ≡ read last (open_rule kind) s) where
+  module _ {z : Stopped} (e : r ≡ Err z) where
     pub read_stopped : read last (open_rule kind) s ≡ stops (stop_of z)
-    read_stopped = sym o.answer ∙ ap (header_read s r.metadata) e
+    read_stopped = sym o ∙ ap (header_read s) e
 
     pub never_finished : ¬ (stop_of z ≡ finished)
     never_finished = rw read_stopped at (proper (Fit kind) (opening kind) last s)
 
-  module _ {n scans : ℕ} {step : Float} (e : r.answer ≡ opened.Header n scans step) where
+  module _ {x : OpenedHeader} (e : r ≡ Ok x) where
     abbrev pub header_read_lem : Header
-    header_read_lem = record { bytes = take n s; says = r.metadata; scans = scans; step = step }
+    header_read_lem = record { bytes = take x.metadata.size s; says = x.metadata; scans = x.scans; step = x.time_step }
 
-    pub read_opened : read last (open_rule kind) s ≡ got header_read_lem n
-    read_opened = sym o.answer ∙ ap (header_read s r.metadata) e
+    pub read_opened : read last (open_rule kind) s ≡ got header_read_lem x.metadata.size
+    read_opened = sym o ∙ ap (header_read s) e
 
-    pub fits : Fit kind header_read_lem × (n ≤ length s)
+    pub fits : Fit kind header_read_lem × (x.metadata.size ≤ length s)
     fits = rw read_opened at (proper (Fit kind) (opening kind) last s)

@@ -1,13 +1,11 @@
 -- What a header says, and the checks on it: document 01, 'Header' and 'Open' (FORMAT 4.3 to 4.6).
-use Rattle.std.specs.Prelude.{◌≡◌, cond, List, [], ◌∷◌, map, ℕ, leb, ltb, eqb, length, take, replicate, Float}
+use Rattle.std.specs.Prelude.{cond, List, [], ◌∷◌, map, ℕ, leb, ltb, eqb, length, take, Float, Option, Some, None, Result, Ok, Err}
 use Rattle.std.specs.Float.{binary32, binary64}
 use Rattle.std.specs.Float.Ieee.{sub, div, of_int, of_bits}
 use Rattle.rules.specs.Rule.{Rule, gives, refuses, ◌>>=◌, ◌>>◌, map_rule, Read, got, stops}
 use Rattle.error.specs.Number.{stop_of}
 use Rattle.common.specs.Bytes.{be, signed, part}
 use Rattle.floats.specs.Doubles.{double, minutes, scan_count_of}
-use Rattle.floats.specs.declared.ScanCount.{ScanCount}
-use Rattle.floats.specs.declared.ScanCount.TheVariants.{TooMany, Count}
 use Rattle.layouts.specs.Table.{Entry, look, minima, texts, offsets, multipliers, clocks}
 use Rattle.agilent.specs.Header.{check, header_rule}
 use Rattle.pascal.specs.Texts.{Place, text_rule}
@@ -16,8 +14,7 @@ use Rattle.pascal.specs.declared.TextField.TheVariants.{Absent}
 use Rattle.layouts.specs.declared.Clock.{Clock}
 use Rattle.layouts.specs.declared.Clock.TheVariants.{Nowhere, Whole, Single}
 use Rattle.metadata.specs.declared.ChemstationMetadata.{ChemstationMetadata}
-use Rattle.metadata.specs.declared.Opened.{Opened}
-use Rattle.metadata.specs.declared.Opened.TheVariants as opened
+use Rattle.error.specs.declared.Stopped.{Stopped}
 use Rattle.metadata.specs.declared.OpenedHeader.{OpenedHeader}
 
 -- ---- texts
@@ -87,9 +84,9 @@ unfoldable pub quotient_of : ChemstationMetadata → List ℕ → Float
 quotient_of d h = div binary64 (sub binary64 d.end_time d.start_time) (step_of h)
 
 -- '10, scan quotient 2^53 or more'
-abbrev pub count_rule : ScanCount → Rule ℕ
-count_rule TooMany = refuses 10
-count_rule (Count n) = gives n
+abbrev pub count_rule : Option ℕ → Rule ℕ
+count_rule None = refuses 10
+count_rule (Some n) = gives n
 
 -- 'Kind 6 then: 9, size below 4,126; 10, ..': the scans of an array
 unfoldable pub array_scans : ChemstationMetadata → List ℕ → Rule ℕ
@@ -129,34 +126,9 @@ after_bytes kind h = metadata_rule h >>= after_description kind h
 unfoldable pub open_rule : ℕ → Rule Header
 open_rule kind = header_rule kind >>= after_bytes kind
 
--- the description of a header that was refused: all zero
-unfoldable pub blank : ChemstationMetadata
-blank = record {
-  edition = 0;
-  size = 0;
-  sequence = 0;
-  vial = 0;
-  replicate = 0;
-  start_time = double 0;
-  end_time = double 0;
-  offset_correction = double 0;
-  mult_correction = double 0;
-  text_starts = replicate 8 0;
-  text_lengths = replicate 8 0;
-}
-
 -- ---- Open's answer
 
 -- what an answer says of the bytes s: a header at their start, or why there is none
-abbrev pub header_read : List ℕ → ChemstationMetadata → Opened → Read Header
-header_read s d (opened.Header n scans step) = got (record { bytes = take n s; says = d; scans = scans; step = step }) n
-header_read s d (opened.Stopped z) = stops (stop_of z)
-
--- 'A refusal returns no state': the description is blank then
-abbrev pub Blank : ChemstationMetadata → Opened → Type 0
-Blank d (opened.Header n scans step) = Unit
-Blank d (opened.Stopped z) = d ≡ blank
-
-pub record Opens (s : List ℕ) (x : Read Header) (r : OpenedHeader) : Type 0 where
-  pub answer : header_read s r.metadata r.answer ≡ x
-  pub empty : Blank r.metadata r.answer
+abbrev pub header_read : List ℕ → Result OpenedHeader Stopped → Read Header
+header_read s (Ok o) = got (record { bytes = take o.metadata.size s; says = o.metadata; scans = o.scans; step = o.time_step }) o.metadata.size
+header_read s (Err z) = stops (stop_of z)

@@ -13,12 +13,13 @@ use Rattle.streams.specs.Next.{atlas_of}
 use Rattle.streams.specs.declared.State.{State}
 use Rattle.streams.specs.declared.Mode.{Mode}
 use Rattle.streams.specs.declared.Mode.TheVariants.{Plain, Atlas}
-use Rattle.opening.specs.Opening.{begins, start_read, says_read, NoDescription, OpensRun}
-use Rattle.opening.specs.declared.Opening.{Opening}
-use Rattle.opening.specs.declared.Opening.TheVariants.{Run, Stopped}
+use Rattle.opening.specs.Opening.{begins, start_read, says_read, OpensRun}
+use Rattle.std.specs.Prelude.{Result, Ok, Err}
+use Rattle.error.specs.declared.Stopped.{Stopped}
+use Rattle.error.specs.declared.Stopped.TheVariants.{Refused}
 use Rattle.opening.specs.declared.OpenedRun.{OpenedRun}
 use Rattle.opening.proofs.HeaderOpens.{state_by_lem, says_by_lem}
-use Rattle.modes.specs.Modes.{has_atlas, open_by, begins_by, start_by, says_by, OpensBy, NotOpened}
+use Rattle.modes.specs.Modes.{has_atlas, open_by, begins_by, start_by, says_by, OpensBy}
 
 module _ (kind : ℕ) where
   pub no_kind : known kind ≡ false → open_by Atlas kind ≡ refuses 1
@@ -35,36 +36,31 @@ module _ (kind : ℕ) where
 
   module _ (last : Bool) (s : List ℕ) where
     -- a kind that is refused
-    pub refused_by : (c : Refusal) (r : OpenedRun) → NotOpened c r → open_by Atlas kind ≡ refuses (number_of c) → OpensBy Atlas kind last s r
+    pub refused_by : (c : Refusal) → open_by Atlas kind ≡ refuses (number_of c) → OpensBy Atlas kind last s (Err (Refused c))
     unfolding read ◌>>=◌
-    refused_by c r n e = record { state = rw (n.answer, e) refl; says = rw (n.answer, e) refl; empty = rw n.answer n.empty }
+    refused_by c e = record { state = rw e refl; says = rw e refl }
 
     -- the state, from one reading to the other
-    abbrev atlas_opening : Opening → Opening
-    atlas_opening (Run st n) = Run (atlas_of st) n
-    atlas_opening (Stopped z) = Stopped z
+    abbrev atlas_opening : Result OpenedRun Stopped → Result OpenedRun Stopped
+    atlas_opening (Ok o) = Ok (record { state = atlas_of o.state; size = o.size; metadata = o.metadata })
+    atlas_opening (Err z) = Err z
 
-    same_says : (r : OpenedRun) (y : Opening) → says_read r.metadata (atlas_opening y) ≡ says_read r.metadata y
-    same_says r (Run st n) = refl
-    same_says r (Stopped z) = refl
+    same_says : (y : Result OpenedRun Stopped) → says_read (atlas_opening y) ≡ says_read y
+    same_says (Ok o) = refl
+    same_says (Err z) = refl
 
-    same_state : (y : Opening) → start_read (atlas_opening y) ≡ map_read atlas_of (start_read y)
-    same_state (Run st n) = refl
-    same_state (Stopped z) = refl
+    same_state : (y : Result OpenedRun Stopped) → start_read (atlas_opening y) ≡ map_read atlas_of (start_read y)
+    same_state (Ok o) = refl
+    same_state (Err z) = refl
 
-    blank_too : (r : OpenedRun) (y : Opening) → NoDescription r.metadata y → NoDescription r.metadata (atlas_opening y)
-    blank_too r (Run st n) p = p
-    blank_too r (Stopped z) p = p
-
-    pub opened_by_lem : (o r : OpenedRun) (y : Opening) → known kind ≡ true → has_atlas kind ≡ true → OpensRun kind last s o → o.answer ≡ y → r.answer ≡ atlas_opening y → r.metadata ≡ o.metadata → OpensBy Atlas kind last s r
-    opened_by_lem o r y k a p q e d =
+    pub opened_by_lem : (y : Result OpenedRun Stopped) → known kind ≡ true → has_atlas kind ≡ true → OpensRun kind last s y → OpensBy Atlas kind last s (atlas_opening y)
+    opened_by_lem y k a p =
         let plain = as_plain k a in
         record {
           state =
-              ap start_read e ∙ same_state y ∙ ap (λ x. map_read atlas_of (start_read x)) (sym q) ∙ ap (map_read atlas_of) (state_by_lem p)
+              same_state y ∙ ap (map_read atlas_of) (state_by_lem p)
               ∙ go (read last (open_rule kind) s) ∙ sym (read_map last (begins_by Atlas kind) (open_rule kind) s) ∙ ap (λ x. read last (map_rule (begins_by Atlas kind) x) s) (sym plain);
-          says = rw (e, d) (same_says o y) ∙ ap (says_read o.metadata) (sym q) ∙ p.says ∙ ap (λ x. read last (map_rule (λ h. h.says) x) s) (sym plain);
-          empty = rw (e, d) (blank_too o y (subst (NoDescription o.metadata) q p.empty));
+          says = same_says y ∙ p.says ∙ ap (λ x. read last (map_rule (λ h. h.says) x) s) (sym plain);
         }
       where
         go : (x : Read Header) → map_read atlas_of (map_read (begins kind) x) ≡ map_read (begins_by Atlas kind) x
@@ -74,12 +70,12 @@ module _ (kind : ℕ) where
 -- ---- either reading
 
 -- under the plain reading it is Open's own contract
-pub plainly : {kind : ℕ} {last : Bool} {s : List ℕ} {r : OpenedRun} → OpensRun kind last s r → OpensBy Plain kind last s r
-plainly o = record { state = o.state; says = o.says; empty = o.empty }
+pub plainly : {kind : ℕ} {last : Bool} {s : List ℕ} {r : Result OpenedRun Stopped} → OpensRun kind last s r → OpensBy Plain kind last s r
+plainly o = record { state = o.state; says = o.says }
 
-module _ {mode : Mode} {kind : ℕ} {last : Bool} {s : List ℕ} {r : OpenedRun} (o : OpensBy mode kind last s r) where
-  pub state_of_lem : start_read r.answer ≡ map_read (begins_by mode kind) (read last (open_by mode kind) s)
+module _ {mode : Mode} {kind : ℕ} {last : Bool} {s : List ℕ} {r : Result OpenedRun Stopped} (o : OpensBy mode kind last s r) where
+  pub state_of_lem : start_read r ≡ map_read (begins_by mode kind) (read last (open_by mode kind) s)
   state_of_lem = o.state ∙ read_map last (begins_by mode kind) (open_by mode kind) s
 
-  pub says_of : says_read r.metadata r.answer ≡ map_read (λ h. h.says) (read last (open_by mode kind) s)
+  pub says_of : says_read r ≡ map_read (λ h. h.says) (read last (open_by mode kind) s)
   says_of = o.says ∙ read_map last (λ h. h.says) (open_by mode kind) s

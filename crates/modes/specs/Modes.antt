@@ -1,18 +1,16 @@
 -- Open by a reading (request 5): 'A separate opening starts an atlas reading under that rule, for DAD and UV only.'
-use Rattle.std.specs.Prelude.{◌≡◌, Bool, ◌||◌, List, ℕ, eqb}
+use Rattle.std.specs.Prelude.{◌≡◌, Bool, ◌||◌, List, ℕ, eqb, Result}
 use Rattle.rules.specs.Rule.{Rule, read, map_rule, ◌>>=◌, ◌>>◌}
 use Rattle.agilent.specs.Header.{check, known}
-use Rattle.metadata.specs.Metadata.{Header, open_rule, blank}
+use Rattle.metadata.specs.Metadata.{Header, open_rule}
 use Rattle.metadata.specs.declared.ChemstationMetadata.{ChemstationMetadata}
 use Rattle.streams.specs.Next.{atlas_of}
 use Rattle.streams.specs.declared.State.{State}
 use Rattle.streams.specs.declared.Mode.{Mode}
 use Rattle.streams.specs.declared.Mode.TheVariants.{Plain, Atlas}
-use Rattle.opening.specs.Opening.{begins, start_read, says_read, NoDescription}
-use Rattle.opening.specs.declared.Opening.TheVariants.{Stopped}
+use Rattle.opening.specs.Opening.{begins, start_read, says_read}
 use Rattle.opening.specs.declared.OpenedRun.{OpenedRun}
-use Rattle.error.specs.declared.Refusal.{Refusal}
-use Rattle.error.specs.declared.Stopped.TheVariants.{Refused}
+use Rattle.error.specs.declared.Stopped.{Stopped}
 
 -- 'for DAD and UV only'
 abbrev pub has_atlas : ℕ → Bool
@@ -37,12 +35,6 @@ abbrev pub says_by : Mode → ℕ → Rule ChemstationMetadata
 says_by mode kind = map_rule (λ h. h.says) (open_by mode kind)
 
 -- an answer r to the bytes s, told whether they are the last; under the plain reading it is Open's own contract
-pub record OpensBy (mode : Mode) (kind : ℕ) (last : Bool) (s : List ℕ) (r : OpenedRun) : Type 0 where
-  pub state : start_read r.answer ≡ read last (start_by mode kind) s
-  pub says : says_read r.metadata r.answer ≡ read last (says_by mode kind) s
-  pub empty : NoDescription r.metadata r.answer
-
--- what is answered of a kind that is refused
-pub record NotOpened (c : Refusal) (r : OpenedRun) : Type 0 where
-  pub answer : r.answer ≡ Stopped (Refused c)
-  pub empty : r.metadata ≡ blank
+pub record OpensBy (mode : Mode) (kind : ℕ) (last : Bool) (s : List ℕ) (r : Result OpenedRun Stopped) : Type 0 where
+  pub state : start_read r ≡ read last (start_by mode kind) s
+  pub says : says_read r ≡ read last (says_by mode kind) s

@@ -2,74 +2,38 @@
 #![tactic(auto)]
 
 ghost use Rattle.std.specs.Prelude.{◌≡◌};
-ghost use Rattle.agilent.specs.Header.{known};
-ghost use Rattle.modes.specs.Modes.{has_atlas, OpensBy, NotOpened};
+ghost use Rattle.agilent.specs.Header.{kind_number};
+ghost use Rattle.modes.specs.Modes.{has_atlas, OpensBy};
 
+use agilent::Kind;
 use error::{Refusal, Stopped};
-use metadata::blank;
-use opening::{OpenedRun, Opening, open_run};
-use streams::{Mode, atlas_of};
-
-// Whether there is such a kind.
-fn is_known(kind: u8) -> bool
-    ensures { result ≡ known kind }
-{
-    if kind < 1 {
-        return false;
-    }
-    kind <= 6
-}
+use opening::{OpenedRun, open_run};
+use streams::Mode;
 
 // Whether a kind has an atlas reading.
-fn has_atlas(kind: u8) -> bool
-    ensures { result ≡ has_atlas kind }
+fn has_atlas(kind: Kind) -> bool
+    ensures { result ≡ has_atlas (kind_number kind) }
 {
-    if kind == 4 {
-        return true;
-    }
-    kind == 5
-}
-
-// A run that is refused: its description is all zero.
-fn not_opened(r: Refusal) -> OpenedRun
-    ensures { NotOpened r result }
-{
-    OpenedRun {
-        answer: Opening::Stopped(Stopped::Refused(r)),
-        metadata: blank(),
+    match kind {
+        Kind::Dad | Kind::Uv => true,
+        _ => false,
     }
 }
 
 // Opens a run under the atlas reading. No byte is looked at of a kind that is none, or that has no such reading.
-pub fn open_atlas(kind: u8, s: &[u8], last: bool) -> OpenedRun
+pub fn open_atlas(kind: u8, s: &[u8], last: bool) -> Result<OpenedRun, Stopped>
     ensures { OpensBy Mode.Atlas kind last s.now result }
 {
-    if !is_known(kind) {
-        return not_opened(Refusal::UnknownKind);
+    if !has_atlas(Kind::try_from(kind)?) {
+        return Err(Refusal::KindWithoutAtlas.into());
     }
-    if !has_atlas(kind) {
-        return not_opened(Refusal::KindWithoutAtlas);
-    }
-    let o = open_run(kind, s, last);
-    let metadata = o.metadata;
-    let answer = o.answer;
-    match answer {
-        Opening::Stopped(z) => OpenedRun {
-            answer: Opening::Stopped(z),
-            metadata,
-        },
-        Opening::Run(st, n) => {
-            let atlas = atlas_of(st);
-            OpenedRun {
-                answer: Opening::Run(atlas, n),
-                metadata,
-            }
-        }
-    }
+    let run = open_run(kind, s, last)?;
+    let state = run.state.in_atlas();
+    Ok(OpenedRun { state, ..run })
 }
 
 // Opens a run by a reading.
-pub fn open_by(mode: Mode, kind: u8, s: &[u8], last: bool) -> OpenedRun
+pub fn open_by(mode: Mode, kind: u8, s: &[u8], last: bool) -> Result<OpenedRun, Stopped>
     ensures { OpensBy mode kind last s.now result }
 {
     match mode {

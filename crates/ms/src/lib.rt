@@ -9,10 +9,10 @@ ghost use Rattle.floats.specs.Wholes.{Sum, doubles, flat};
 ghost use Rattle.streams.specs.Next.{item_of, stepped, rule_by, answer_of};
 ghost use Rattle.ms.specs.Ms.{ms_made, ms_point, ms_scans, ms_rule};
 
-use common::{be_u16, be_u32};
-use error::{Refusal, Stopped, cut};
-use floats::{f64_from_u16, f64_from_u32, minutes_of};
-use streams::{ChemstationMsState, Next, Points, Record, Scans, State};
+use common::Number;
+use error::{Refusal, Stopped, lacking};
+use floats::minutes_of;
+use streams::{ChemstationMsState, Given, Points, Record, Scans, State};
 
 // Bytes of a scan's count, and of its head: count, time, and 12 that are passed over.
 const COUNT: usize = 2;
@@ -33,133 +33,112 @@ fn ms_intensity(raw: u16) -> f64
 {
     let base = raw as u32 % 16384;
     let exponent = raw as u32 / 16384;
-    f64_from_u32(base << (3 * exponent))
+    f64::from(base << (3 * exponent))
 }
 
-// The record of a point, and the state after it.
-fn ms_given(
-    scans: Scans,
-    points: Points,
-    time: f64,
-    stored: u32,
-    mz: u16,
-    value: f64,
-    n: usize,
-) -> Next
-    ensures { answer_of result ≡ got (item_of (ms_made scans points time stored mz) (flat doubles value)) n }
+// The record of a point of a scan, and the state after it: the counts are already those that are then due.
+fn ms_given(st: ChemstationMsState, mz: u16, value: f64, n: usize) -> Result<Given, Stopped>
+    ensures { answer_of result ≡ got (item_of (ms_made st.n_scans_left st.n_mzs_left st.cur_time st.stored_time mz) (flat doubles value)) n }
 {
     let record = Record::Mass {
-        time,
-        mz: f64_from_u16(mz) / 20.0,
+        time: st.cur_time,
+        mz: f64::from(mz) / 20.0,
         unscaled: value,
         scaled: value,
-        minutes: stored / 60000,
-        leftover: stored % 60000,
+        minutes: st.stored_time / 60000,
+        leftover: st.stored_time % 60000,
     };
     let state = ChemstationMsState {
-        n_scans_left: scans,
-        n_mzs_left: points,
-        cur_time: time,
         cur_intensity: value,
-        stored_time: stored,
+        ..st
     };
-    Next::Given(record, State::Ms(state), n)
+    Ok(Given {
+        record,
+        state: State::Ms(state),
+        bytes: n,
+    })
 }
 
 // A point, and the footer if it is its scan's last. The value before it makes no difference.
-fn ms_point(
-    scans: Scans,
-    points: Points,
-    time: f64,
-    stored: u32,
-    s: &[u8],
-    at: usize,
-    last: bool,
-) -> Next
-    requires { (at ≤ length s.now) × (0 < scans.0) × (0 < points.0) }
-    ensures { (v : Sum Float) → answer_of result ≡ map_read (stepped v) (read_at last (ms_point scans points time stored) at s.now) }
+fn ms_point(st: ChemstationMsState, s: &[u8], at: usize, last: bool) -> Result<Given, Stopped>
+    requires { (at ≤ length s.now) × (0 < st.n_scans_left.0) × (0 < st.n_mzs_left.0) }
+    ensures { (v : Sum Float) → answer_of result ≡ map_read (stepped v) (read_at last (ms_point st.n_scans_left st.n_mzs_left st.cur_time st.stored_time) at s.now) }
 {
     if s.len() - at < POINT {
-        return Next::Stopped(cut(last));
+        return Err(lacking(last, false));
     }
-    let mz = be_u16(s, at);
-    let value = ms_intensity(be_u16(s, at + 2));
-    if points.0 != 1 {
-        return ms_given(
-            scans,
-            Points(points.0 - 1),
-            time,
-            stored,
-            mz,
-            value,
-            at + POINT,
-        );
+    let mz = u16::be_at(s, at);
+    let value = ms_intensity(u16::be_at(s, at + 2));
+    if st.n_mzs_left.0 != 1 {
+        let within = ChemstationMsState {
+            n_mzs_left: Points(st.n_mzs_left.0 - 1),
+            ..st
+        };
+        return ms_given(within, mz, value, at + POINT);
     }
     if s.len() - at < LAST_POINT {
-        return Next::Stopped(cut(last));
+        return Err(lacking(last, false));
     }
-    ms_given(
-        Scans(scans.0 - 1),
-        Points(0),
-        time,
-        stored,
-        mz,
-        value,
-        at + LAST_POINT,
-    )
+    let behind = ChemstationMsState {
+        n_scans_left: Scans(st.n_scans_left.0 - 1),
+        n_mzs_left: Points(0),
+        ..st
+    };
+    ms_given(behind, mz, value, at + LAST_POINT)
 }
 
 // A scan whose count, already read, makes so many points.
-fn ms_scan(scans: Scans, points: Points, s: &[u8], at: usize, last: bool) -> Next
+fn ms_scan(scans: Scans, points: Points, s: &[u8], at: usize, last: bool) -> Result<Given, Stopped>
     requires { (at + 2 ≤ length s.now) × (0 < scans.0) × (0 < points.0) × (points.0 ≡ (be (part at 2 s.now) - 14) / 2) }
     ensures { (v : Sum Float) → answer_of result ≡ map_read (stepped v) (read_at last (ms_scans scans.0) at s.now) }
 {
     if s.len() - at < HEAD {
-        return Next::Stopped(cut(last));
+        return Err(lacking(last, false));
     }
-    let stored = be_u32(s, at + COUNT);
-    let time = minutes_of(f64_from_u32(stored));
-    ms_point(scans, points, time, stored, s, at + HEAD, last)
+    let stored_time = u32::be_at(s, at + COUNT);
+    let st = ChemstationMsState {
+        stored_time,
+        n_scans_left: scans,
+        n_mzs_left: points,
+        cur_time: minutes_of(f64::from(stored_time)),
+        cur_intensity: 0.0,
+    };
+    ms_point(st, s, at + HEAD, last)
 }
 
 // The first point of the next scan that has any: the empty ones are passed over.
-fn ms_scans(due: Scans, s: &[u8], last: bool) -> Next
+fn ms_scans(due: Scans, s: &[u8], last: bool) -> Result<Given, Stopped>
     ensures { (v : Sum Float) → answer_of result ≡ map_read (stepped v) (read_at last (ms_scans due.0) 0 s.now) }
 {
-    let mut at: usize = 0;
-    let mut left = due.0;
-    while left > 0 {
+    for passed in 0..due.0 {
+        let at = passed * EMPTY_SCAN;
         if s.len() - at < COUNT {
-            return Next::Stopped(cut(last));
+            return Err(lacking(last, false));
         }
-        let count = be_u16(s, at);
+        let count = u16::be_at(s, at);
         if count < 14 {
-            return Next::Stopped(Stopped::Refused(Refusal::MsCountTooSmall));
+            return Err(Stopped::Refused(Refusal::MsCountTooSmall));
         }
         let points = (count - 14) / 2;
         if points != 0 {
-            return ms_scan(Scans(left), Points(points as usize), s, at, last);
+            return ms_scan(Scans(due.0 - passed), Points(points as usize), s, at, last);
         }
         if s.len() - at < EMPTY_SCAN {
-            return Next::Stopped(cut(last));
+            return Err(lacking(last, false));
         }
-        at = at + EMPTY_SCAN;
-        left = left - 1;
     }
-    Next::Stopped(Stopped::Finished)
+    Err(Stopped::Finished)
 }
 
 // The next record of MS.
-pub fn ms_next(st: ChemstationMsState, s: &[u8], last: bool) -> Next
+pub fn ms_next(st: ChemstationMsState, s: &[u8], last: bool) -> Result<Given, Stopped>
     ensures { answer_of result ≡ read last (rule_by (State.Ms st) (ms_rule st)) s.now }
 {
-    let scans = st.n_scans_left;
-    if scans.0 == 0 {
-        return Next::Stopped(Stopped::Finished);
+    if st.n_scans_left.0 == 0 {
+        return Err(Stopped::Finished);
     }
-    let points = st.n_mzs_left;
-    if points.0 == 0 {
-        return ms_scans(scans, s, last);
+    if st.n_mzs_left.0 == 0 {
+        return ms_scans(st.n_scans_left, s, last);
     }
-    ms_point(scans, points, st.cur_time, st.stored_time, s, 0, last)
+    ms_point(st, s, 0, last)
 }

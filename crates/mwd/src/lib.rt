@@ -7,65 +7,71 @@ ghost use Rattle.floats.specs.Wholes.{doubles, flat};
 ghost use Rattle.streams.specs.Next.{sum_of, item_of, stepped, rule_by, answer_of};
 ghost use Rattle.mwd.specs.Mwd.{mwd_made, mwd_point, mwd_rule};
 
-use common::{Endian, be_u16};
-use error::{Stopped, cut, ended};
-use streams::{
-    ChemstationMwdState, DeltaAt, Next, Points, State, changed_by, delta_at, trace_point,
-};
+use common::{Endian, Number};
+use error::{Stopped, lacking};
+use streams::{ChemstationMwdState, Given, Points, Record, State, delta_at};
 
 // Bytes of a group's count of points.
 const GROUP: usize = 2;
 
 // The record of a value, and the state after it with the points that are then due.
-fn mwd_given(st: ChemstationMwdState, points: Points, value: f64, n: usize) -> Next
+fn mwd_given(
+    st: ChemstationMwdState,
+    points: Points,
+    value: f64,
+    n: usize,
+) -> Result<Given, Stopped>
     ensures { answer_of result ≡ got (item_of (mwd_made st points) (flat doubles value)) n }
 {
     let cur_time = st.cur_time + st.time_step;
-    let record = trace_point(cur_time, value, st.mult_correction, st.offset_correction);
+    let record = Record::trace(cur_time, value, st.mult_correction, st.offset_correction);
     let state = ChemstationMwdState {
         n_wvs_left: points,
         cur_time,
         cur_intensity: value,
-        time_step: st.time_step,
-        mult_correction: st.mult_correction,
-        offset_correction: st.offset_correction,
+        ..st
     };
-    Next::Given(record, State::Mwd(state), n)
+    Ok(Given {
+        record,
+        state: State::Mwd(state),
+        bytes: n,
+    })
 }
 
 // The point at a position, one of so many due.
-fn mwd_point(st: ChemstationMwdState, points: Points, s: &[u8], at: usize, last: bool) -> Next
+fn mwd_point(
+    st: ChemstationMwdState,
+    points: Points,
+    s: &[u8],
+    at: usize,
+    last: bool,
+) -> Result<Given, Stopped>
     requires points_nonzero { 0 < points.0 }
     requires at_in_bounds { at ≤ length s.now }
     ensures { answer_of result ≡ map_read (stepped (sum_of (State.Mwd st))) (read_at last (mwd_point st points) at s.now) }
 {
-    match delta_at(Endian::Big, s, at, last) {
-        DeltaAt::Read(d, n) => {
-            let value = changed_by(st.cur_intensity, d);
-            mwd_given(st, Points(points.0 - 1), value, n)
-        }
-        DeltaAt::Stopped(z) => Next::Stopped(z),
-    }
+    let (d, n) = delta_at(Endian::Big, s, at, last)?;
+    mwd_given(st, Points(points.0 - 1), d.applied_to(st.cur_intensity), n)
 }
 
 // The next record of MWD.
-pub fn mwd_next(st: ChemstationMwdState, s: &[u8], last: bool) -> Next
+pub fn mwd_next(st: ChemstationMwdState, s: &[u8], last: bool) -> Result<Given, Stopped>
     ensures { answer_of result ≡ read last (rule_by (State.Mwd st) (mwd_rule st)) s.now }
 {
-    if s.len() == 0 {
-        return Next::Stopped(ended(last));
+    if s.is_empty() {
+        return Err(lacking(last, true));
     }
     let points = st.n_wvs_left;
     if points.0 != 0 {
         return mwd_point(st, points, s, 0, last);
     }
     if s.len() < GROUP {
-        return Next::Stopped(cut(last));
+        return Err(lacking(last, false));
     }
     // the top 4 bits are no part of the count
-    let count = be_u16(s, 0) % 4096;
+    let count = u16::be_at(s, 0) % 4096;
     if count == 0 {
-        return Next::Stopped(Stopped::Finished);
+        return Err(Stopped::Finished);
     }
     mwd_point(st, Points(count as usize), s, GROUP, last)
 }

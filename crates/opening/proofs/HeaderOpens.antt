@@ -8,10 +8,12 @@ use Rattle.rules.proofs.Laws.{read_map}
 use Rattle.metadata.specs.Metadata.{open_rule}
 use Rattle.opening.specs.Opening.{begins, start_read, says_read, OpensRun}
 use Rattle.opening.specs.declared.OpenedRun.{OpenedRun}
+use Rattle.std.specs.Prelude.{Result}
+use Rattle.error.specs.declared.Stopped.{Stopped}
 
-module _ {kind : ℕ} {last : Bool} {s : List ℕ} {r : OpenedRun} (o : OpensRun kind last s r) where
-  pub state_by_lem : start_read r.answer ≡ map_read (begins kind) (read last (open_rule kind) s)
+module _ {kind : ℕ} {last : Bool} {s : List ℕ} {r : Result OpenedRun Stopped} (o : OpensRun kind last s r) where
+  pub state_by_lem : start_read r ≡ map_read (begins kind) (read last (open_rule kind) s)
   state_by_lem = o.state ∙ read_map last (begins kind) (open_rule kind) s
 
-  pub says_by_lem : says_read r.metadata r.answer ≡ map_read (λ h. h.says) (read last (open_rule kind) s)
+  pub says_by_lem : says_read r ≡ map_read (λ h. h.says) (read last (open_rule kind) s)
   says_by_lem = o.says ∙ read_map last (λ h. h.says) (open_rule kind) s

@@ -1,11 +1,12 @@
 -- Open (document 01): the header, and the state before the first record (FORMAT 5).
-use Rattle.std.specs.Prelude.{◌≡◌, Bool, true, false, cond, ◌&&◌, ◌||◌, List, [], ◌∷◌, ℕ, eqb, Float}
+use Rattle.std.specs.Prelude.{◌≡◌, Bool, true, false, cond, ◌&&◌, ◌||◌, List, [], ◌∷◌, ℕ, eqb, Float, Result, Ok, Err}
 use Rattle.std.specs.Float.{binary64}
 use Rattle.std.specs.Float.Ieee.{sub, div}
 use Rattle.rules.specs.Rule.{Rule, map_rule, Read, got, stops, read}
 use Rattle.error.specs.Number.{stop_of}
+use Rattle.error.specs.declared.Stopped.{Stopped}
 use Rattle.common.specs.Bytes.{part}
-use Rattle.metadata.specs.Metadata.{Header, open_rule, blank}
+use Rattle.metadata.specs.Metadata.{Header, open_rule}
 use Rattle.metadata.specs.declared.ChemstationMetadata.{ChemstationMetadata}
 use Rattle.floats.specs.Doubles.{double}
 use Rattle.streams.specs.declared.ChemstationArrayRecordType.{ChemstationArrayRecordType}
@@ -13,8 +14,6 @@ use Rattle.streams.specs.declared.ChemstationArrayRecordType.TheVariants.{Float3
 use Rattle.streams.specs.declared.Scans.{Scans}
 use Rattle.streams.specs.declared.State.{State}
 use Rattle.streams.specs.declared.State.TheVariants.{Fid, Ms, Mwd, Dad, Uv, Array}
-use Rattle.opening.specs.declared.Opening.{Opening}
-use Rattle.opening.specs.declared.Opening.TheVariants.{Run, Stopped}
 use Rattle.opening.specs.declared.OpenedRun.{OpenedRun}
 
 -- ---- the state before the first record
@@ -114,22 +113,16 @@ start_rule kind = map_rule (begins kind) (open_rule kind)
 abbrev pub says_rule : ℕ → Rule ChemstationMetadata
 says_rule kind = map_rule (λ h. h.says) (open_rule kind)
 
--- what an answer says: the state and the header's size, or why there is none
-abbrev pub start_read : Opening → Read State
-start_read (Run st n) = got st n
-start_read (Stopped z) = stops (stop_of z)
+-- what an answer says: the state and the header's size, or why there is none. 'A refusal returns no state', nor a description
+abbrev pub start_read : Result OpenedRun Stopped → Read State
+start_read (Ok o) = got o.state o.size
+start_read (Err z) = stops (stop_of z)
 
-abbrev pub says_read : ChemstationMetadata → Opening → Read ChemstationMetadata
-says_read d (Run st n) = got d n
-says_read d (Stopped z) = stops (stop_of z)
-
--- 'A refusal returns no state': the description is all zero then
-abbrev pub NoDescription : ChemstationMetadata → Opening → Type 0
-NoDescription d (Run st n) = Unit
-NoDescription d (Stopped z) = d ≡ blank
+abbrev pub says_read : Result OpenedRun Stopped → Read ChemstationMetadata
+says_read (Ok o) = got o.metadata o.size
+says_read (Err z) = stops (stop_of z)
 
 -- an answer r to the bytes s, told whether they are the last
-pub record OpensRun (kind : ℕ) (last : Bool) (s : List ℕ) (r : OpenedRun) : Type 0 where
-  pub state : start_read r.answer ≡ read last (start_rule kind) s
-  pub says : says_read r.metadata r.answer ≡ read last (says_rule kind) s
-  pub empty : NoDescription r.metadata r.answer
+pub record OpensRun (kind : ℕ) (last : Bool) (s : List ℕ) (r : Result OpenedRun Stopped) : Type 0 where
+  pub state : start_read r ≡ read last (start_rule kind) s
+  pub says : says_read r ≡ read last (says_rule kind) s

@@ -7,8 +7,7 @@ use lib.ListN.{length, get_or, take, drop, length-drop}
 use lib.Seq.{length-take-le}
 use borrow.Author.Tests.{lt-ltb, le-ltb}
 use Rattle.rules.specs.Rule.{refuses}
-use Rattle.trim.specs.WhiteSpace.{trimmed_of}
-use Rattle.trim.specs.declared.Trimmed.TheVariants.{At}
+use Rattle.trim.specs.WhiteSpace.{at, trimmed_of}
 use Rattle.trim.proofs.Stands.{stands_at, inside_bounds}
 use Rattle.pascal.specs.Texts.{trimmed_from, pascal}
 use Rattle.agilent.proofs.Checks.{passes, fails}
@@ -28,6 +27,6 @@ module _ (h : List ℕ) (start width n : ℕ) (e : n ≡ get_or h start 0) where
       let w : start + 1 + n - (start + 1) ≡ n = omega arith in
       rw (← e, w) (passes 7 _ (lt-ltb n width l))
 
-  pub trims_within : start + 1 + n ≤ length h → (p m : ℕ) → trimmed_of behind ≡ At p m → start + 1 + p ≤ length h
+  pub trims_within : start + 1 + n ≤ length h → (p m : ℕ) → trimmed_of behind ≡ at p m → start + 1 + p ≤ length h
   trims_within l p m t =
       omega (arith, inside_bounds (stands_at behind p m t), length-take-le (start + 1 + n - (start + 1)) (drop (start + 1) h) (omega (arith, length-drop (start + 1) h)))

@@ -1,16 +1,14 @@
 -- Texts behind a length byte: document 01, 'Header' and 'Open' (FORMAT 4.3).
-use Rattle.std.specs.Prelude.{cond, List, ℕ, ◌+◌, ◌-◌, ◌*◌, ltb, eqb, length, get_or}
+use Rattle.std.specs.Prelude.{cond, List, ℕ, ◌+◌, ◌-◌, ◌*◌, ltb, eqb, length, get_or, Option, Some, None, Result, Ok, Err}
 use Rattle.rules.specs.Rule.{Rule, gives, refuses, ◌>>◌}
 use Rattle.error.specs.Number.{number_of}
 use Rattle.common.specs.Bytes.{part}
 use Rattle.trim.specs.WhiteSpace.{trimmed_of}
-use Rattle.trim.specs.declared.Trimmed.{Trimmed}
-use Rattle.trim.specs.declared.Trimmed.TheVariants as trimmed
+use Rattle.trim.specs.declared.Extent.{Extent}
 use Rattle.agilent.specs.Header.{check}
 use Rattle.pascal.specs.declared.TextField.{TextField}
 use Rattle.pascal.specs.declared.TextField.TheVariants.{Absent, Pascal, PascalToEnd, Utf16}
-use Rattle.pascal.specs.declared.TextPlace.{TextPlace}
-use Rattle.pascal.specs.declared.TextPlace.TheVariants.{At, Refused}
+use Rattle.error.specs.declared.Refusal.{Refusal}
 
 -- where a text stands: 'the start and length .., in bytes after trimming; 0, 0 for an empty one'
 pub record Place : Type 0 where
@@ -21,9 +19,9 @@ abbrev pub place_at : ℕ → ℕ → Place
 place_at start bytes = cond (eqb bytes 0) (record { start = 0; bytes = 0 }) (record { start = start; bytes = bytes })
 
 -- '8, not UTF-8'
-abbrev pub trimmed_from : ℕ → Trimmed → Rule Place
-trimmed_from from trimmed.NotUtf8 = refuses 8
-trimmed_from from (trimmed.At p n) = gives (place_at (from + p) n)
+abbrev pub trimmed_from : ℕ → Option Extent → Rule Place
+trimmed_from from None = refuses 8
+trimmed_from from (Some e) = gives (place_at (from + e.start) e.count)
 
 -- 'Old: length byte, UTF-8, trimmed of Unicode White_Space at both ends'; '7, length byte not below the field's width'
 unfoldable pub pascal : ℕ → ℕ → List ℕ → Rule Place
@@ -43,9 +41,12 @@ text_rule (Utf16 start) h = gives (utf16_pascal start h)
 
 -- ---- what the code's answers say
 
-abbrev pub place_rule : TextPlace → Rule Place
-place_rule (At start bytes) = gives (record { start = start; bytes = bytes })
-place_rule (Refused r) = refuses (number_of r)
+abbrev pub place_of : Extent → Place
+place_of x = record { start = x.start; bytes = x.count }
+
+abbrev pub place_rule : Result Extent Refusal → Rule Place
+place_rule (Ok x) = gives (place_of x)
+place_rule (Err r) = refuses (number_of r)
 
 -- so many bytes of a header a field takes, whatever its length byte says
 abbrev pub reach : TextField → ℕ

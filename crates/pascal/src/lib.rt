@@ -2,14 +2,14 @@
 #![tactic(auto)]
 
 ghost use Rattle.std.specs.Prelude.{◌≡◌, ◌+◌, ◌≤◌, ◌<◌, length};
-ghost use Rattle.rules.specs.Rule.{gives};
-ghost use Rattle.pascal.specs.Texts.{reach, place_at, pascal, utf16_pascal, text_rule, place_rule};
+ghost use Rattle.pascal.specs.Texts.{reach, place_at, pascal, utf16_pascal, text_rule, place_of, place_rule};
 
 use error::Refusal;
-use trim::{Trimmed, trim_utf8};
+use trim::{Extent, trim_utf8};
 
 // The field of a text.
-#[derive(Clone, Copy)]
+// Kept: `Absent` as a fourth case, since an `Option` of the three others would only add a second match.
+#[derive(Clone, Copy, Debug, PartialEq, Eq)]
 pub enum TextField {
     // the edition has no such text
     Absent,
@@ -21,60 +21,45 @@ pub enum TextField {
     Utf16 { start: usize },
 }
 
-// Where a text stands and its length, in bytes, or why the header is refused.
-#[derive(Clone, Copy)]
-pub enum TextPlace {
-    At(usize, usize),
-    Refused(Refusal),
-}
-
-fn place_at(start: usize, bytes: usize) -> TextPlace
-    ensures { place_rule result ≡ gives (place_at start bytes) }
+// An empty text stands at 0.
+fn place_at(start: usize, count: usize) -> Extent
+    ensures { place_of result ≡ place_at start count }
 {
-    if bytes == 0 {
-        return TextPlace::At(0, 0);
-    }
-    TextPlace::At(start, bytes)
+    let start = if count == 0 { 0 } else { start };
+    Extent { start, count }
 }
 
-fn wide(b: u8) -> usize
-    ensures { (result ≡ b) × (result < 256) }
-{
-    b as usize
-}
-
-fn get_utf16_pascal(h: &[u8], start: usize) -> TextPlace
+fn get_utf16_pascal(h: &[u8], start: usize) -> Extent
     requires { start + 511 ≤ length h.now }
-    ensures { place_rule result ≡ gives (utf16_pascal start h.now) }
+    ensures { place_of result ≡ utf16_pascal start h.now }
 {
-    place_at(start + 1, 2 * wide(h[start]))
+    place_at(start + 1, 2 * usize::from(h[start]))
 }
 
-fn get_pascal(h: &[u8], start: usize, width: usize) -> TextPlace
+fn get_pascal(h: &[u8], start: usize, width: usize) -> Result<Extent, Refusal>
     requires { (start < length h.now) × (start + width ≤ length h.now) }
     ensures { place_rule result ≡ pascal start width h.now }
 {
-    let n = wide(h[start]);
+    let n = usize::from(h[start]);
     if width <= n {
-        return TextPlace::Refused(Refusal::TextTooLong);
+        return Err(Refusal::TextTooLong);
     }
     let from = start + 1;
     let to = from + n;
-    match trim_utf8(&h[from..to]) {
-        Trimmed::NotUtf8 => TextPlace::Refused(Refusal::NotUtf8),
-        Trimmed::At(p, bytes) => place_at(from + p, bytes),
-    }
+    let text = trim_utf8(&h[from..to]).ok_or(Refusal::NotUtf8)?;
+    Ok(place_at(from + text.start, text.count))
 }
 
-// Where the text of a field stands.
-pub fn text_place(h: &[u8], f: TextField) -> TextPlace
+// Where the text of a field stands, or why the header is refused.
+#[tactic(auto, unfolding(crate::specs::Texts::text_rule))]
+pub fn text_place(h: &[u8], f: TextField) -> Result<Extent, Refusal>
     requires { reach f ≤ length h.now }
     ensures { place_rule result ≡ text_rule f h.now }
 {
     match f {
-        TextField::Absent => TextPlace::At(0, 0),
+        TextField::Absent => Ok(place_at(0, 0)),
         TextField::Pascal { start, width } => get_pascal(h, start, width),
         TextField::PascalToEnd { start } => get_pascal(h, start, h.len() - start),
-        TextField::Utf16 { start } => get_utf16_pascal(h, start),
+        TextField::Utf16 { start } => Ok(get_utf16_pascal(h, start)),
     }
 }

@@ -2,6 +2,7 @@
 use mathlib.Core.Path.{◌≡◌, refl, sym, ap, ap₂, ◌∙◌, subst}
 use mathlib.Core.Bool.{Bool, true, false, cond, ◌&&◌, ◌||◌, false≢true}
 use mathlib.Core.List.{List, ◌++◌}
+use mathlib.Core.Logic.{◌⊎◌, inl, inr}
 use Prim.Native.Nat.{ℕ, zero, suc, ◌+◌, ◌-◌, ◌≤◌, ◌<◌}
 use native.Mathlib.Nat.{zero-add}
 use native.Mathlib.Numerals.{add-one}
@@ -11,6 +12,7 @@ use lib.Dec.{eqb, leb}
 use lib.ListN.{length, take, drop, length-drop}
 use lib.Seq.{length-take-le}
 use Rattle.digits.specs.Put.{Put}
+use Rattle.digits.specs.declared.Pen.{Pen}
 use Rattle.places.specs.declared.Ask.{Ask}
 use Rattle.rules.specs.Rule.{Stop, refused, finished, more_bytes, Read, got, stops, read}
 use Rattle.rules.specs.Calls.{Item, Answer, full, stopped, Reading, nothing}
@@ -19,12 +21,10 @@ use Rattle.error.specs.declared.Refusal.{Refusal}
 use Rattle.error.specs.declared.Stopped.{Stopped}
 use Rattle.error.specs.declared.Stopped.TheVariants.{Refused}
 use Rattle.reader.specs.Columns.{closing_of}
-use Rattle.reader.specs.declared.Closing.{Closing}
-use Rattle.reader.specs.declared.Closing.TheVariants as closing
-use Rattle.sums.specs.Sums.{total_from}
-use Rattle.sums.specs.declared.Total.{Total}
+use Rattle.std.specs.Prelude.{Result, Err}
+use Rattle.sums.specs.Sums.{AnyTotal, total_from}
 use Rattle.runlog.specs.Runs.{lines_of, unscaled, logged, LoggedBy}
-use Rattle.runlog.proofs.Logs.{line_some, no_room, logged_got, logged_stops, read_inside, read_room}
+use Rattle.runlog.proofs.Logs.{line_some, no_room, logged_got, logged_stops, read_inside, read_room, room_of}
 use Rattle.lines.specs.Lines.{record_line}
 use Rattle.runlog.specs.declared.Logged.{Logged}
 use Rattle.chemstation.specs.Next.{rule}
@@ -33,7 +33,7 @@ use Rattle.streams.specs.declared.Record.{Record}
 use Rattle.places.specs.declared.Phase.{Phase}
 use Rattle.places.specs.declared.Phase.TheVariants.{Records, Ended, TooLong, Over}
 use Rattle.places.specs.declared.Place.{Place}
-use Rattle.places.specs.Machine.{at_hand, put_at, moved_to, totalled, Stepped, IsStep, most, writes, closes, fits, goes_on, behind, afterwards, by_phase, step_of, is_finished, finished_from, closing_bytes, scan_left, ends_by}
+use Rattle.places.specs.Machine.{at_hand, put_at, moved_to, totalled, Stepped, IsStep, most, writes, closes, fits, goes_on, behind, afterwards, once_written, by_phase, step_of, is_finished, finished_from, closing_bytes, scan_left, ends_by}
 
 -- the lent memory after a text was put
 pub put_at_lem : {l old new : List ℕ} {at r : ℕ} → Put l at old r new → new ≡ put_at at l old
@@ -75,6 +75,9 @@ else_place s {t} {r} e i = subst (λ x. r ≡ cond x s t) (sym e) i
 pub step_as : {s t : Stepped} {r : Ask} {buf out : List ℕ} → s ≡ t → IsStep s r buf out → IsStep t r buf out
 step_as {r = r} {buf} {out} e i = subst (λ x. IsStep x r buf out) e i
 
+pub step_out : {s : Stepped} {r : Ask} {buf out last : List ℕ} → last ≡ out → IsStep s r buf out → IsStep s r buf last
+step_out e i = record { answer = i.answer; buffer = i.buffer; text = e ∙ i.text }
+
 -- whether the record loop with room for a line stopped as a finished run does
 abbrev pub is_end : Answer → Bool
 is_end full = false
@@ -96,6 +99,9 @@ end_so st bs = go (read false (rule st) bs) refl
     go : (x : Read (Item State Record)) → read false (rule st) bs ≡ x → is_end (logged 70 false st bs).closing ≡ is_finished x
     go (got x n) e = ap (λ g. is_end g.closing) (logged_got 70 false st bs (omega arith) e) ∙ ap (λ g. is_end g.closing) (one x.shows x.after (drop n bs))
     go (stops z) e = ap (λ g. is_end g.closing) (logged_stops 70 false st bs (omega arith) e) ∙ stops_so z
+
+pub finished_so : (st : State) (bs : List ℕ) (c : Result (Unit {0}) Stopped) (b : Bool) → b ≡ is_end (closing_of c) → closing_of c ≡ (logged 70 false st bs).closing → b ≡ is_finished (read false (rule st) bs)
+finished_so st bs c b e f = e ∙ ap is_end f ∙ end_so st bs
 
 -- the search for the fields that closed a run
 pub finished_here : (k n : ℕ) (st : State) (bs : List ℕ) → is_finished (read false (rule st) (take n bs)) ≡ true → finished_from k n st bs ≡ n
@@ -121,32 +127,37 @@ module _ (p : Place) (st : State) (buf out : List ℕ) {r : Ask} {b o : List ℕ
   pub go_refused : (z : Stopped) (c : Refusal) → z ≡ Refused c → IsStep (closes p Over (stop_of z) buf out) r b o → IsStep (goes_on p st (stopped (stop_of z)) buf out) r b o
   go_refused z c e = subst (λ x. IsStep (closes p Over (stop_of x) buf out) r b o → IsStep (goes_on p st (stopped (stop_of x)) buf out) r b o) (sym e) (λ i. i)
 
-  pub closing_as : (c d : Closing) → c ≡ d → IsStep (goes_on p st (closing_of d) buf out) r b o → IsStep (goes_on p st (closing_of c) buf out) r b o
+  pub closing_as : (c d : Result (Unit {0}) Stopped) → c ≡ d → IsStep (goes_on p st (closing_of d) buf out) r b o → IsStep (goes_on p st (closing_of c) buf out) r b o
   closing_as c d e i = subst (λ x. IsStep (goes_on p st (closing_of x) buf out) r b o) (sym e) i
 
 -- ---- records logged
 
-module _ (p : Place) (st : State) (buf out out' : List ℕ) (g : Reading State Record) (w : Logged) (l : LoggedBy g 0 out p.at p.total w out') where
-  -- the place behind them
-  placed : (phase : Phase) (count : ℕ) (q : Place) → q ≡ moved_to p phase (p.from + w.from) p.to w.at count → q ≡ moved_to p phase (p.from + g.consumed) p.to (p.at + length (lines_of g.records)) count
-  placed phase count q e = e ∙ ap₂ (λ f a. moved_to p phase (p.from + f) p.to a count) (l.from ∙ zero-add g.consumed) l.put.next
+module _ (p : Place) (st : State) (buf : List ℕ) (pen next : Pen) (at_start : pen.at ≡ p.at) (g : Reading State Record) (w : Logged) (l : LoggedBy g 0 pen p.total w next) where
+  abbrev here : List ℕ
+  here = put_at p.at (lines_of g.records) pen.out.now
 
-  pub too_many : {r : Ask} (q : Place) → most < p.count + w.count → q ≡ moved_to p TooLong (p.from + w.from) p.to w.at p.count → IsStep (writes q q.phase buf out') r buf out' → IsStep (behind p st buf out g) r buf out'
-  too_many q h e i =
+  -- the place behind them
+  placed : (phase : Phase) (count : ℕ) → moved_to p phase (p.from + w.from) p.to next.at count ≡ moved_to p phase (p.from + g.consumed) p.to (p.at + length (lines_of g.records)) count
+  placed phase count = ap₂ (λ f a. moved_to p phase (p.from + f) p.to a count) (l.from ∙ zero-add g.consumed) (l.put.put.next ∙ ap (λ n. n + length (lines_of g.records)) at_start)
+
+  texts : next.out.now ≡ here
+  texts = put_at_lem l.put.put ∙ ap (λ n. put_at n (lines_of g.records) pen.out.now) at_start
+
+  pub too_many : {r : Ask} {out : List ℕ} → out ≡ next.out.now → most < p.count + w.count →
+      IsStep (writes (moved_to p TooLong (p.from + w.from) p.to next.at p.count) TooLong buf out) r buf out → IsStep (behind p st buf pen.out.now g) r buf out
+  too_many {out = out} same h i =
       then_step _ (lt-ltb most (p.count + length g.records) (omega (arith, l.count)))
-      record { answer = i.answer ∙ ap (λ x. (writes x x.phase buf out').answer) (placed TooLong p.count q e); buffer = refl; text = put_at_lem l.put }
+      record { answer = i.answer ∙ ap (λ x. (writes x TooLong buf out).answer) (placed TooLong p.count); buffer = refl; text = same ∙ texts }
 
   abbrev onward : Place
   onward = totalled (moved_to p (Records g.state) (p.from + g.consumed) p.to (p.at + length (lines_of g.records)) (p.count + length g.records)) (total_from p.total (unscaled g.records))
 
-  pub logged_on : {r : Ask} {b o : List ℕ} (q q' : Place) → p.count + w.count ≤ most → q ≡ moved_to p (Records w.state) (p.from + w.from) p.to w.at (p.count + w.count) →
-      q' ≡ totalled q w.total → IsStep (goes_on q' w.state (closing_of w.closing) buf out') r b o → IsStep (behind p st buf out g) r b o
-  logged_on q q' h e f i =
-      let moved : q ≡ moved_to p (Records g.state) (p.from + g.consumed) p.to (p.at + length (lines_of g.records)) (p.count + length g.records) =
-      placed (Records w.state) (p.count + w.count) q e ∙ ap₂ (λ s n. moved_to p (Records s) (p.from + g.consumed) p.to (p.at + length (lines_of g.records)) (p.count + n)) l.state l.count in
-      let here : q' ≡ onward = f ∙ ap₂ totalled moved l.total in
+  pub logged_on : {r : Ask} {b o : List ℕ} → p.count + w.count ≤ most →
+      IsStep (goes_on (totalled (moved_to p (Records w.state) (p.from + w.from) p.to next.at (p.count + w.count)) w.total) w.state (closing_of w.closing) buf next.out.now) r b o → IsStep (behind p st buf pen.out.now g) r b o
+  logged_on h i =
+      let moved = placed (Records w.state) (p.count + w.count) ∙ ap₂ (λ s n. moved_to p (Records s) (p.from + g.consumed) p.to (p.at + length (lines_of g.records)) (p.count + n)) l.state l.count in
       else_step _ (le-ltb most (p.count + length g.records) (omega (arith, l.count)))
-      (step_as (ap₂ (λ x s. goes_on x s (closing_of w.closing) buf out') here l.state ∙ ap₂ (λ c t. goes_on onward g.state c buf t) l.closing (put_at_lem l.put)) i)
+      (step_as (ap₂ (λ x s. goes_on x s (closing_of w.closing) buf next.out.now) (ap₂ totalled moved l.total) l.state ∙ ap₂ (λ c t. goes_on onward g.state c buf t) l.closing texts) i)
 
 -- ---- by the phase
 
@@ -155,6 +166,12 @@ after_as p phase buf out {r} {b} {o} e i = subst (λ x. IsStep (afterwards x p b
 
 pub phase_as : (p : Place) (phase : Phase) (buf out : List ℕ) {r : Ask} {b o : List ℕ} → p.phase ≡ phase → IsStep (by_phase phase p buf out) r b o → IsStep (by_phase p.phase p buf out) r b o
 phase_as p phase buf out {r} {b} {o} e i = subst (λ x. IsStep (by_phase x p buf out) r b o) (sym e) i
+
+-- once the log is closed
+pub after_phase : (p : Place) (buf out : List ℕ) → ((all : ℕ) × (due : ℕ) × (p.phase ≡ Ended all due)) ⊎ ((p.phase ≡ TooLong) ⊎ (p.phase ≡ Over)) → by_phase p.phase p buf out ≡ once_written p buf out
+after_phase p buf out (inl (all, due, e)) = ap (λ x. by_phase x p buf out) e
+after_phase p buf out (inr (inl e)) = ap (λ x. by_phase x p buf out) e
+after_phase p buf out (inr (inr e)) = ap (λ x. by_phase x p buf out) e
 
 -- a step at a place that fits, with room for a line
 pub at_place : (p : Place) (buf out : List ℕ) {r : Ask} {b o : List ℕ} → fits p buf out ≡ true → 70 ≤ length out - p.at → IsStep (by_phase p.phase p buf out) r b o → IsStep (step_of p buf out) r b o
@@ -185,28 +202,15 @@ fits_inside p buf out e =
 pub hand_long : (p : Place) (buf : List ℕ) → p.from ≤ p.to → p.to ≤ length buf → length (at_hand buf p) ≡ p.to - p.from
 hand_long p buf h k = length-take-le (p.to - p.from) (drop p.from buf) (omega (arith, length-drop p.from buf))
 
--- the place behind the records logged lies inside, with room for the closing line where they stopped
-module _ (p q : Place) (buf out out' : List ℕ) (last : Bool) (st : State) (t : Total) (w : Logged) (phase : Phase) (count : ℕ) where
-  pub record Behind : Type 0 where
-    pub low : q.from ≤ q.to
-    pub filled : q.to ≤ length buf
-    pub line : q.at + 68 ≤ length out'
+-- behind the records logged there is room for the closing line where they stopped, and no byte but those at hand was consumed
+module _ (p : Place) (buf : List ℕ) (pen next : Pen) (last : Bool) (st : State) (t : AnyTotal) (w : Logged) (l : LoggedBy (logged (room_of pen) last st (at_hand buf p)) 0 pen t w next) where
+  pub line_behind : pen.at ≤ length pen.out.now → (z : Stopped) → w.closing ≡ Err z → next.at + 68 ≤ length next.out.now
+  line_behind room z c =
+      let free = read_room (room_of pen) (room_of pen) last st (at_hand buf p) (sym l.closing ∙ ap closing_of c) in
+      omega (arith, l.put.put.next, l.put.put.same)
 
-  pub behind_inside : p.from ≤ p.to → p.to ≤ length buf → p.at ≤ length out → LoggedBy (logged (length out - p.at) last st (at_hand buf p)) 0 out p.at t w out' →
-      (m : Place) (s : Total) → m ≡ moved_to p phase (p.from + w.from) p.to w.at count → q ≡ totalled m s → (z : Stopped) → w.closing ≡ closing.Stopped z → Behind
-  behind_inside low filled room l m s d f z c =
-      let e : q ≡ totalled (moved_to p phase (p.from + w.from) p.to w.at count) s = f ∙ ap (λ x. totalled x s) d in
+  pub taken_inside : p.from ≤ p.to → p.to ≤ length buf → p.from + w.from ≤ p.to
+  taken_inside low filled =
       let hand = hand_long p buf low filled in
-      let inside = read_inside (length out - p.at) (length out - p.at) last st (at_hand buf p) in
-      let free = read_room (length out - p.at) (length out - p.at) last st (at_hand buf p) (sym l.closing ∙ ap closing_of c) in
-      record {
-        low = omega (arith, ap (λ x. x.from) e, ap (λ x. x.to) e, l.from);
-        filled = omega (arith, ap (λ x. x.to) e);
-        line = omega (arith, ap (λ x. x.at) e, l.put.next, l.put.same);
-      }
-
-  pub taken_inside : p.from ≤ p.to → p.to ≤ length buf → LoggedBy (logged (length out - p.at) last st (at_hand buf p)) 0 out p.at t w out' → p.from + w.from ≤ p.to
-  taken_inside low filled l =
-      let hand = hand_long p buf low filled in
-      let inside = read_inside (length out - p.at) (length out - p.at) last st (at_hand buf p) in
+      let inside = read_inside (room_of pen) (room_of pen) last st (at_hand buf p) in
       omega (arith, l.from)

@@ -1,5 +1,5 @@
 -- The log program without input and output: what a run asks for at a place, and where it stands then. Document 01, 'The log program', and request 1.
-use Rattle.std.specs.Prelude.{ℕ, zero, suc, ◌+◌, ◌-◌, ◌≡◌, Bool, true, false, cond, ◌&&◌, ◌||◌, List, ◌++◌, eqb, leb, ltb, length, take, drop, get_or}
+use Rattle.std.specs.Prelude.{ℕ, zero, suc, ◌+◌, ◌-◌, ◌≡◌, Bool, true, false, cond, ◌&&◌, ◌||◌, List, ◌++◌, eqb, leb, ltb, length, take, drop, get_or, Some, None, Ok, Err}
 use Rattle.rules.specs.Rule.{Stop, refused, finished, more_bytes, Read, got, stops, read}
 use Rattle.rules.specs.Calls.{Answer, full, stopped, Reading}
 use Rattle.metadata.specs.Metadata.{Header}
@@ -10,9 +10,7 @@ use Rattle.streams.specs.declared.State.TheVariants.{Fid, Ms, Mwd, Dad, Uv, Arra
 use Rattle.streams.specs.declared.Mode.{Mode}
 use Rattle.streams.specs.declared.Record.{Record}
 use Rattle.digits.specs.Numbers.{kind_of}
-use Rattle.sums.specs.Sums.{total_from}
-use Rattle.sums.specs.declared.Total.{Total}
-use Rattle.sums.specs.declared.Total.TheVariants.{Absent}
+use Rattle.sums.specs.Sums.{AnyTotal, total_from}
 use Rattle.lines.specs.Lines.{total_line, end_line}
 use Rattle.lines.specs.Left.{left_line, too_long_line}
 use Rattle.runlog.specs.Runs.{lines_of, unscaled, logged}
@@ -27,12 +25,12 @@ use Rattle.places.specs.declared.Ask.TheVariants as ask
 
 -- the first of the bytes: none has come
 abbrev pub started : Mode → Place
-started mode = record { phase = Digit mode; from = 0; to = 0; last = false; at = 0; count = 0; total = Absent; came = 0 }
+started mode = record { phase = Digit mode; from = 0; to = 0; last = false; at = 0; count = 0; total = None; came = 0 }
 
 abbrev pub moved_to : Place → Phase → ℕ → ℕ → ℕ → ℕ → Place
 moved_to p phase from to at count = record { phase = phase; from = from; to = to; last = p.last; at = at; count = count; total = p.total; came = p.came }
 
-abbrev pub totalled : Place → Total → Place
+abbrev pub totalled : Place → AnyTotal → Place
 totalled p t = record { phase = p.phase; from = p.from; to = p.to; last = p.last; at = p.at; count = p.count; total = t; came = p.came }
 
 -- nothing is asked for any more but to write what stands in the output buffer: so ends a run that could not be read, without an `e`

@@ -6,11 +6,11 @@ ghost use Rattle.rules.specs.Rule.{read};
 ghost use Rattle.error.specs.Number.{stop_of};
 ghost use Rattle.lines.specs.Left.{left_line, too_long_line};
 ghost use Rattle.chemstation.specs.Next.{rule};
-ghost use Rattle.places.specs.declared.Phase.TheVariants.{Digit};
-ghost use Rattle.places.specs.Machine.{most, started, moved_to, totalled, writes, closes, refills, is_finished, closing_bytes, scan_left, ends_by, tells, tells_left, leaves, once_written, by_phase, IsStep, grown, came, over, took_of, wrote_of};
+ghost use Rattle.places.specs.declared.Phase.TheVariants.{Digit, Over};
+ghost use Rattle.places.specs.Machine.{most, started, moved_to, writes, closes, refills, is_finished, closing_bytes, scan_left, ends_by, tells, tells_left, leaves, once_written, by_phase, IsStep, came, over, took_of, wrote_of};
 
+use digits::Pen;
 use error::{Refusal, Stopped};
-use reader::Closing;
 use streams::{Mode, State};
 use sums::Total;
 
@@ -19,7 +19,7 @@ use sums::Total;
 pub enum Phase {
     // the digit is due, of a run that is opened by this reading
     Digit(Mode),
-    // the header of a run of this kind
+    // the header of a run of this kind, any number: opening refuses those that are none
     Header(Mode, u8),
     Records(State),
     // the log is closed with 0: so many bytes of the last scan were left, and so many of them are still due
@@ -30,6 +30,8 @@ pub enum Phase {
 }
 
 // Where a run stands.
+// Kept: (d) the buffers stay parameters beside it, and three facts of them stand in the contracts: a struct over lent buffers takes no
+// ghost field, which the borrow checker does not cover beside a `&mut`, so the facts would be named as often.
 #[derive(Clone, Copy)]
 pub struct Place {
     pub phase: Phase,
@@ -60,127 +62,30 @@ pub enum Ask {
     Closed,
 }
 
-// The start of a run that is opened by a reading.
-pub fn start(mode: Mode) -> Place
-    ensures { result ≡ started mode }
-{
-    Place {
-        phase: Phase::Digit(mode),
-        from: 0,
-        to: 0,
-        last: false,
-        at: 0,
-        count: 0,
-        total: Total::Absent,
-        came: 0,
-    }
-}
-
-// a less b, not below 0.
-fn less(a: usize, b: usize) -> usize
-    ensures { result ≡ a - b }
-{
-    if a < b { 0 } else { a - b }
-}
-
-// The same place but for what changes in a step.
-pub fn moves(p: Place, phase: Phase, from: usize, to: usize, at: usize, count: usize) -> Place
-    ensures { result ≡ moved_to p phase from to at count }
-{
-    let total = p.total;
-    Place {
-        phase,
-        from,
-        to,
-        last: p.last,
-        at,
-        count,
-        total,
-        came: p.came,
-    }
-}
-
-// The same place but for the total.
-pub fn totals(p: Place, total: Total) -> Place
-    ensures { result ≡ totalled p total }
-{
-    let phase = p.phase;
-    Place {
-        phase,
-        from: p.from,
-        to: p.to,
-        last: p.last,
-        at: p.at,
-        count: p.count,
-        total,
-        came: p.came,
-    }
-}
-
-// What stands in the output buffer is written.
-pub fn write(p: Place) -> Ask
-    ensures { (buf out : List ℕ) → IsStep (writes p p.phase buf out) result buf out }
-{
-    let phase = p.phase;
-    let at = p.at;
-    Ask::Write(moves(p, phase, p.from, p.to, 0, p.count), at)
-}
-
-// The t line, if there is one, and the closing line are put behind it, and all is written.
-pub fn close(p: Place, phase: Phase, z: Stopped, out: &mut [u8]) -> Ask
-    requires { p.at + 68 ≤ length out.old }
-    ensures { (buf : List ℕ) → IsStep (closes p phase (stop_of z) buf out.old) result buf out.new }
-{
-    let total = p.total;
-    let at = lines::put_total(out, p.at, total);
-    let n = lines::put_end(out, at, z, p.count);
-    Ask::Write(moves(p, phase, p.from, p.to, 0, p.count), n)
-}
-
-// More bytes are due behind those at hand. If these fill the buffer, the run closes.
-pub fn refill(p: Place, buf: &mut [u8], out: &mut [u8]) -> Ask
-    requires { (p.from ≤ p.to) × (p.to ≤ length buf.old) × (p.at + 68 ≤ length out.old) }
-    ensures { IsStep (refills p buf.old out.old) result buf.new out.new }
-{
-    let n = p.to - p.from;
-    if n == buf.len() {
-        return close(p, Phase::Over, Stopped::MoreBytes, out);
-    }
-    let phase = p.phase;
-    runlog::compact(buf, p.from, p.to);
-    Ask::Read(moves(p, phase, 0, n, p.at, p.count), n)
-}
-
 // Whether a run is finished, whatever follows. The record loop is asked, so that the reader has one caller in the program, which
 // the compiler can then build into the loop.
 fn finished(st: State, s: &[u8]) -> bool
     ensures { result ≡ is_finished (read false (rule st) s.now) }
 {
     let mut line = [0u8; 70];
-    let w = runlog::log_records(st, s, 0, false, &mut line, 0, Total::Absent);
-    let closing = w.closing;
-    match closing {
-        Closing::Full => false,
-        Closing::Stopped(z) => match z {
-            Stopped::Finished => true,
-            Stopped::Refused(_) => false,
-            Stopped::MoreBytes => false,
-        },
-    }
+    let mut pen = Pen {
+        out: &mut line,
+        at: 0,
+    };
+    let w = runlog::log_records(st, s, 0, false, &mut pen, None);
+    matches!(w.closing, Err(Stopped::Finished))
 }
 
 // How many bytes the fields have that closed a run.
 fn closing_bytes(st: State, s: &[u8]) -> usize
     ensures { (result ≡ closing_bytes st s.now) × (result ≤ length s.now) }
 {
-    let mut n: usize = 0;
-    while n < s.len() {
-        if finished(st, &s[0..n]) {
+    for n in 0..s.len() {
+        if finished(st, &s[..n]) {
             return n;
         }
-        n += 1;
     }
-    n
+    s.len()
 }
 
 // The bytes of the last scan that a run leaves.
@@ -189,188 +94,239 @@ fn scan_left(st: State) -> usize
 {
     match st {
         State::Dad(d) => d.n_bytes_left.0,
-        State::Fid(_) => 0,
-        State::Ms(_) => 0,
-        State::Mwd(_) => 0,
-        State::Uv(_) => 0,
-        State::Array(_) => 0,
-        State::AtlasDad(_) => 0,
-        State::AtlasUv(_) => 0,
+        State::Fid(_)
+        | State::Ms(_)
+        | State::Mwd(_)
+        | State::Uv(_)
+        | State::Array(_)
+        | State::AtlasDad(_)
+        | State::AtlasUv(_) => 0,
     }
 }
 
-// The run is closed with 0: the fields that closed it are consumed.
-pub fn end(p: Place, st: State, hand: &[u8], out: &mut [u8]) -> Ask
-    requires { (p.from + length hand.now ≤ p.to) × (p.at + 68 ≤ length out.old) }
-    ensures { (buf : List ℕ) → IsStep (ends_by st p hand.now buf out.old) result buf out.new }
-{
-    let phase = p.phase;
-    let n = closing_bytes(st, hand);
-    let due = scan_left(st);
-    let q = moves(p, phase, p.from + n, p.to, p.at, p.count);
-    close(q, Phase::Ended(due, due), Stopped::Finished, out)
-}
-
-// What is left is told.
-fn say_left(p: Place, scan: usize, behind: usize, out: &mut [u8]) -> Ask
-    requires { 128 ≤ length out.old }
-    ensures { (buf : List ℕ) → IsStep (tells p (left_line scan behind) buf out.old) result buf out.new }
-{
-    let n = lines::put_left(out, 0, scan, behind);
-    Ask::Tell(moves(p, Phase::Over, p.from, p.to, 0, p.count), n)
-}
-
-// What is left is told, if anything is.
-fn tell_left(p: Place, scan: usize, behind: usize, out: &mut [u8]) -> Ask
-    requires { 128 ≤ length out.old }
-    ensures { (buf : List ℕ) → IsStep (tells_left scan behind p buf out.old) result buf out.new }
-{
-    if scan > 0 {
-        return say_left(p, scan, behind, out);
+impl Place {
+    // The start of a run that is opened by a reading.
+    pub fn start(mode: Mode) -> Place
+        ensures { result ≡ started mode }
+    {
+        Place {
+            phase: Phase::Digit(mode),
+            from: 0,
+            to: 0,
+            last: false,
+            at: 0,
+            count: 0,
+            total: None,
+            came: 0,
+        }
     }
-    if behind > 0 {
-        return say_left(p, scan, behind, out);
-    }
-    Ask::Closed
-}
 
-// What is left of the last scan is passed over, and what is left is told.
-fn leave(all: usize, due: usize, p: Place, out: &mut [u8]) -> Ask
-    requires { (p.from ≤ p.to) × (128 ≤ length out.old) }
-    ensures { (buf : List ℕ) → IsStep (leaves all due p buf out.old) result buf out.new }
-{
-    let hand = p.to - p.from;
-    let rest = less(due, hand);
-    let scan = less(all, rest);
-    let behind = less(hand, due);
-    if due < hand {
-        return tell_left(p, scan, behind, out);
+    // What stands in the output buffer is written.
+    pub fn write(self) -> Ask
+        ensures { (buf out : List ℕ) → IsStep (writes self self.phase buf out) result buf out }
+    {
+        Ask::Write(Place { at: 0, ..self }, self.at)
     }
-    if p.last {
-        return tell_left(p, scan, behind, out);
+
+    // The t line, if there is one, and the closing line are put behind it, and all is written.
+    pub fn close(self, phase: Phase, z: Stopped, out: &mut [u8]) -> Ask
+        requires { self.at + 68 ≤ length out.old }
+        ensures { (buf : List ℕ) → IsStep (closes self phase (stop_of z) buf out.old) result buf out.new }
+    {
+        let mut pen = Pen { out, at: self.at };
+        lines::put_total(&mut pen, self.total);
+        lines::put_end(&mut pen, z, self.count);
+        Ask::Write(
+            Place {
+                phase,
+                at: 0,
+                ..self
+            },
+            pen.at,
+        )
     }
-    Ask::Read(moves(p, Phase::Ended(all, rest), 0, 0, 0, p.count), 0)
-}
 
-// The digit is due.
-pub fn first(mode: Mode, p: Place, out: &mut [u8]) -> Ask
-    requires { p.at + 68 ≤ length out.old }
-    ensures { (buf : List ℕ) → IsStep (by_phase (Digit mode) p buf out.old) result buf out.new }
-{
-    if p.last {
-        return close(p, Phase::Over, Stopped::Refused(Refusal::UnknownKind), out);
+    // More bytes are due behind those at hand. If these fill the buffer, the run closes.
+    pub fn refill(self, buf: &mut [u8], out: &mut [u8]) -> Ask
+        requires { (self.from ≤ self.to) × (self.to ≤ length buf.old) × (self.at + 68 ≤ length out.old) }
+        ensures { IsStep (refills self buf.old out.old) result buf.new out.new }
+    {
+        let n = self.to - self.from;
+        if n == buf.len() {
+            return self.close(Phase::Over, Stopped::MoreBytes, out);
+        }
+        runlog::compact(buf, self.from, self.to);
+        Ask::Read(
+            Place {
+                from: 0,
+                to: n,
+                ..self
+            },
+            n,
+        )
     }
-    Ask::Read(moves(p, Phase::Digit(mode), 0, 0, p.at, p.count), 0)
-}
 
-// That the input is too long is told.
-fn tell_too_long(p: Place, out: &mut [u8]) -> Ask
-    requires { 128 ≤ length out.old }
-    ensures { (buf : List ℕ) → IsStep (tells p too_long_line buf out.old) result buf out.new }
-{
-    let n = lines::put_too_long(out, 0);
-    Ask::Tell(moves(p, Phase::Over, p.from, p.to, 0, p.count), n)
-}
-
-// What a run asks for once its log is closed and written.
-pub fn after(p: Place, out: &mut [u8]) -> Ask
-    requires { (p.from ≤ p.to) × (128 ≤ length out.old) }
-    ensures { (buf : List ℕ) → IsStep (once_written p buf out.old) result buf out.new }
-{
-    if p.at > 0 {
-        return write(p);
-    }
-    let phase = p.phase;
-    match phase {
-        Phase::Ended(all, due) => leave(all, due, p, out),
-        Phase::TooLong => tell_too_long(p, out),
-        Phase::Over => Ask::Closed,
-        Phase::Digit(_) => Ask::Closed,
-        Phase::Header(_, _) => Ask::Closed,
-        Phase::Records(_) => Ask::Closed,
-    }
-}
-
-// ---- what a read answers, and a write
-
-// So many bytes came behind those at hand.
-fn grow(p: Place, phase: Phase, from: usize, k: usize) -> Place
-    requires { (p.to + k ≤ most) × (p.came + k ≤ most) }
-    ensures { result ≡ grown p phase from k }
-{
-    let last = p.last;
-    let total = p.total;
-    Place {
-        phase,
-        from,
-        to: p.to + k,
-        last,
-        at: p.at,
-        count: p.count,
-        total,
-        came: p.came + k as u64,
-    }
-}
-
-// The first of them is the digit; the others are the file's.
-fn arrive(p: Place, k: usize, buf: &[u8]) -> Place
-    requires { (0 < k) × (p.to + k ≤ length buf.now) × (p.came + k ≤ most) }
-    ensures { result ≡ came p.phase p k buf.now }
-{
-    let to = p.to;
-    let from = p.from;
-    let phase = p.phase;
-    match phase {
-        Phase::Digit(mode) => grow(p, Phase::Header(mode, digits::kind_of(buf[to])), to + 1, k),
-        Phase::Header(_, _) => grow(p, phase, from, k),
-        Phase::Records(_) => grow(p, phase, from, k),
-        Phase::Ended(_, _) => grow(p, phase, from, k),
-        Phase::TooLong => grow(p, phase, from, k),
-        Phase::Over => grow(p, phase, from, k),
-    }
-}
-
-// Where a run stands when a read has given so many bytes.
-pub fn took(p: Place, k: usize, buf: &[u8]) -> Place
-    ensures { result ≡ took_of p k buf.now }
-{
-    let phase = p.phase;
-    let total = p.total;
-    if k == 0 {
-        return Place {
-            phase,
-            from: p.from,
-            to: p.to,
-            last: true,
-            at: p.at,
-            count: p.count,
-            total,
-            came: p.came,
+    // The run is closed with 0: the fields that closed it are consumed.
+    pub fn end(self, st: State, hand: &[u8], out: &mut [u8]) -> Ask
+        requires { (self.from + length hand.now ≤ self.to) × (self.at + 68 ≤ length out.old) }
+        ensures { (buf : List ℕ) → IsStep (ends_by st self hand.now buf out.old) result buf out.new }
+    {
+        let due = scan_left(st);
+        let q = Place {
+            from: self.from + closing_bytes(st, hand),
+            ..self
         };
+        q.close(Phase::Ended(due, due), Stopped::Finished, out)
     }
-    if k > less(buf.len(), p.to) {
-        return moves(p, Phase::Over, p.from, p.to, p.at, p.count);
-    }
-    if k as u64 > u64::MAX - p.came {
-        return moves(p, Phase::TooLong, p.from, p.to, p.at, p.count);
-    }
-    arrive(p, k, buf)
-}
 
-// Where it stands when a read has failed.
-pub fn read_failed(p: Place) -> Place
-    ensures { result ≡ over p }
-{
-    moves(p, Phase::Over, p.from, p.to, p.at, p.count)
-}
-
-// Where it stands when all was written, or not.
-pub fn wrote(p: Place, ok: bool) -> Place
-    ensures { result ≡ wrote_of p ok }
-{
-    if ok {
-        return p;
+    // What is left is told, if anything is.
+    fn tell_left(self, scan: usize, behind: usize, out: &mut [u8]) -> Ask
+        requires { 128 ≤ length out.old }
+        ensures { (buf : List ℕ) → IsStep (tells_left scan behind self buf out.old) result buf out.new }
+    {
+        if scan == 0 && behind == 0 {
+            return Ask::Closed;
+        }
+        let mut pen = Pen { out, at: 0 };
+        lines::put_left(&mut pen, scan, behind);
+        Ask::Tell(self.silent(), pen.at)
     }
-    let after = Phase::Over;
-    moves(p, after, p.from, p.to, 0, p.count)
+
+    // What is left of the last scan is passed over, and what is left is told.
+    fn leave(self, all: usize, due: usize, out: &mut [u8]) -> Ask
+        requires { (self.from ≤ self.to) × (128 ≤ length out.old) }
+        ensures { (buf : List ℕ) → IsStep (leaves all due self buf out.old) result buf out.new }
+    {
+        let hand = self.to - self.from;
+        let rest = due.saturating_sub(hand);
+        if due < hand || self.last {
+            return self.tell_left(all.saturating_sub(rest), hand.saturating_sub(due), out);
+        }
+        Ask::Read(
+            Place {
+                phase: Phase::Ended(all, rest),
+                from: 0,
+                to: 0,
+                at: 0,
+                ..self
+            },
+            0,
+        )
+    }
+
+    // The digit is due.
+    pub fn first(self, mode: Mode, out: &mut [u8]) -> Ask
+        requires { self.at + 68 ≤ length out.old }
+        ensures { (buf : List ℕ) → IsStep (by_phase (Digit mode) self buf out.old) result buf out.new }
+    {
+        if self.last {
+            return self.close(Phase::Over, Stopped::Refused(Refusal::UnknownKind), out);
+        }
+        Ask::Read(
+            Place {
+                phase: Phase::Digit(mode),
+                from: 0,
+                to: 0,
+                ..self
+            },
+            0,
+        )
+    }
+
+    // That the input is too long is told.
+    fn tell_too_long(self, out: &mut [u8]) -> Ask
+        requires { 128 ≤ length out.old }
+        ensures { (buf : List ℕ) → IsStep (tells self too_long_line buf out.old) result buf out.new }
+    {
+        let mut pen = Pen { out, at: 0 };
+        lines::put_too_long(&mut pen);
+        Ask::Tell(self.silent(), pen.at)
+    }
+
+    // What a run asks for once its log is closed and written.
+    pub fn after(self, out: &mut [u8]) -> Ask
+        requires { (self.from ≤ self.to) × (128 ≤ length out.old) }
+        ensures { (buf : List ℕ) → IsStep (once_written self buf out.old) result buf out.new }
+    {
+        if self.at > 0 {
+            return self.write();
+        }
+        match self.phase {
+            Phase::Ended(all, due) => self.leave(all, due, out),
+            Phase::TooLong => self.tell_too_long(out),
+            Phase::Over | Phase::Digit(_) | Phase::Header(_, _) | Phase::Records(_) => Ask::Closed,
+        }
+    }
+
+    // ---- what a read answers, and a write
+
+    // So many bytes came behind those at hand. The first of them is the digit; the others are the file's.
+    fn arrive(self, k: usize, buf: &[u8]) -> Place
+        requires { (0 < k) × (self.to + k ≤ length buf.now) × (self.came + k ≤ most) }
+        ensures { result ≡ came self.phase self k buf.now }
+    {
+        let grown = Place {
+            to: self.to + k,
+            came: self.came + k as u64,
+            ..self
+        };
+        match self.phase {
+            Phase::Digit(mode) => Place {
+                phase: Phase::Header(mode, digits::kind_of(buf[self.to])),
+                from: self.to + 1,
+                ..grown
+            },
+            Phase::Header(_, _)
+            | Phase::Records(_)
+            | Phase::Ended(_, _)
+            | Phase::TooLong
+            | Phase::Over => grown,
+        }
+    }
+
+    // Where a run stands when a read has given so many bytes.
+    pub fn took(self, k: usize, buf: &[u8]) -> Place
+        ensures { result ≡ took_of self k buf.now }
+    {
+        if k == 0 {
+            return Place { last: true, ..self };
+        }
+        if k > buf.len().saturating_sub(self.to) {
+            return self.over();
+        }
+        if k as u64 > u64::MAX - self.came {
+            return Place {
+                phase: Phase::TooLong,
+                ..self
+            };
+        }
+        self.arrive(k, buf)
+    }
+
+    // Where it stands when a read has failed: nothing is asked for any more but to write what stands in the output buffer.
+    pub fn over(self) -> Place
+        ensures { result ≡ over self }
+    {
+        Place {
+            phase: Phase::Over,
+            ..self
+        }
+    }
+
+    // The same, with nothing to write.
+    fn silent(self) -> Place
+        ensures { result ≡ moved_to self Over self.from self.to 0 self.count }
+    {
+        Place {
+            at: 0,
+            ..self.over()
+        }
+    }
+
+    // Where it stands when all was written, or not.
+    pub fn wrote(self, ok: bool) -> Place
+        ensures { result ≡ wrote_of self ok }
+    {
+        if ok { self } else { self.silent() }
+    }
 }

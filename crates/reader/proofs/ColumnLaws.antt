@@ -15,9 +15,11 @@ use Rattle.rules.proofs.Filling.{Filled, filled_start, filled_more, filled_stops
 use Rattle.chemstation.specs.Next.{rule}
 use Rattle.streams.specs.declared.State.{State}
 use Rattle.streams.specs.declared.Record.{Record}
-use Rattle.reader.specs.Columns.{row_of, Columns, columns, equal_lengths, Even, filled_with, columns_with, closing_of, FilledBy}
+use Rattle.reader.specs.Columns.{row_of, Held, columns, equal_lengths, AreTheSame, Even, put_row, filled_with, columns_with, closing_of, FilledBy}
+use Rattle.reader.specs.declared.Columns.{Columns}
 use Rattle.reader.specs.declared.Row.{Row}
-use Rattle.reader.specs.declared.Closing.{Closing}
+use Rattle.std.specs.Prelude.{Result}
+use Rattle.error.specs.declared.Stopped.{Stopped}
 use Rattle.reader.specs.declared.Filled.{Filled as Answer}
 
 -- ---- a column, of any element type
@@ -30,12 +32,24 @@ filled_set f rows r [] h = absurd (omega arith)
 filled_set f [] r (y ∷ ys) h = refl
 filled_set f (x ∷ xs) r (y ∷ ys) h = ap (λ l. f (row_of x) ∷ l) (filled_set f xs r ys (le_of_suc-le-suc h))
 
+-- ---- the slices of lent columns
+
+pub same_still : {a b c : Columns} → AreTheSame a b → AreTheSame b c → AreTheSame a c
+same_still p q = record {
+  time = q.time ∙ p.time;
+  axis = q.axis ∙ p.axis;
+  unscaled = q.unscaled ∙ p.unscaled;
+  scaled = q.scaled ∙ p.scaled;
+  minutes = q.minutes ∙ p.minutes;
+  leftover = q.leftover ∙ p.leftover;
+}
+
 -- ---- columns of one length
 
 abbrev is_long : {A : Type 0} → ℕ → List A → Bool
 is_long n l = eqb (length l) n
 
-pub even_if : (c : Columns) → equal_lengths c ≡ true → Even (length c.time) c
+pub even_if : (c : Held) → equal_lengths c ≡ true → Even (length c.time) c
 even_if c e =
     let n = length c.time in
     let last = is_long n c.minutes && is_long n c.leftover in
@@ -52,7 +66,7 @@ even_if c e =
       leftover = eqb→eq (length c.leftover) n s.1;
     }
 
-pub even_filled : (n : ℕ) (rows : List Record) (old : Columns) → length rows ≤ n → Even n old → Even n (columns_with rows old)
+pub even_filled : (n : ℕ) (rows : List Record) (old : Held) → length rows ≤ n → Even n old → Even n (columns_with rows old)
 even_filled n rows old h e = record {
   time = length_filled (λ r. r.time) rows old.time (omega (arith, e.time)) ∙ e.time;
   axis = length_filled (λ r. r.axis) rows old.axis (omega (arith, e.axis)) ∙ e.axis;
@@ -62,13 +76,7 @@ even_filled n rows old h e = record {
   leftover = length_filled (λ r. r.leftover) rows old.leftover (omega (arith, e.leftover)) ∙ e.leftover;
 }
 
--- a row put at a place of all six
-abbrev pub put_row : Columns → ℕ → Row → Columns
-put_row c i r =
-    columns (set c.time i r.time) (set c.axis i r.axis) (set c.unscaled i r.unscaled) (set c.scaled i r.scaled)
-    (set c.minutes i r.minutes) (set c.leftover i r.leftover)
-
-pub put_next : (n : ℕ) (rows : List Record) (r : Record) (old : Columns) → length rows < n → Even n old → put_row (columns_with rows old) (length rows) (row_of r) ≡ columns_with (rows ++ (r ∷ [])) old
+pub put_next : (n : ℕ) (rows : List Record) (r : Record) (old : Held) → length rows < n → Even n old → put_row (columns_with rows old) (length rows) (row_of r) ≡ columns_with (rows ++ (r ∷ [])) old
 put_next n rows r old h e = λ j. record {
   time = filled_set (λ r. r.time) rows r old.time (omega (arith, e.time)) j;
   axis = filled_set (λ r. r.axis) rows r old.axis (omega (arith, e.axis)) j;
@@ -80,9 +88,9 @@ put_next n rows r old h e = λ j. record {
 
 -- ---- the loop
 
-module _ (n : ℕ) (st : State) (s : List ℕ) (last : Bool) (old : Columns) where
+module _ (n : ℕ) (st : State) (s : List ℕ) (last : Bool) (old : Held) where
   -- i records of n are read, by at bytes, and stand in the columns new
-  pub record Going (new : Columns) (cur : State) (at i : ℕ) : Type 0 where
+  pub record Going (new : Held) (cur : State) (at i : ℕ) : Type 0 where
     pub rows : List Record
     pub count : length rows ≡ i
     pub low : i ≤ n
@@ -91,13 +99,13 @@ module _ (n : ℕ) (st : State) (s : List ℕ) (last : Bool) (old : Columns) whe
     pub holds : new ≡ columns_with rows old
     pub even : Even n new
 
-  abbrev Done : Answer → Columns → Type 0
+  abbrev Done : Answer → Held → Type 0
   Done r new = FilledBy (read_up_to rule last n st s) r old new
 
   pub going_start : Even n old → Going old st 0 0
   going_start e = record { rows = []; count = refl; low = omega arith; inside = omega arith; read_so_far = rw sub-zero (filled_start rule last n st s); holds = refl; even = e }
 
-  module _ (new : Columns) (cur : State) (at i : ℕ) (g : Going new cur at i) where
+  module _ (new : Held) (cur : State) (at i : ℕ) (g : Going new cur at i) where
     pub going_more : i < n → Even n old → (r : Record) (after : State) (k : ℕ) → read last (rule cur) (drop at s) ≡ got (record { shows = r; after = after }) k →
         Going (put_row new i (row_of r)) after (at + k) (i + 1)
     going_more h e r after k q =
@@ -115,11 +123,11 @@ module _ (n : ℕ) (st : State) (s : List ℕ) (last : Bool) (old : Columns) whe
           even = subst (Even n) (sym holds) (even_filled n rows old (omega (arith, count)) e);
         }
 
-    pub going_stops : i < n → (z : Stop) (c : Closing) → closing_of c ≡ stopped z → read last (rule cur) (drop at s) ≡ stops z → Done (record { count = i; consumed = at; state = cur; closing = c }) new
+    pub going_stops : i < n → (z : Stop) (c : Result (Unit {0}) Stopped) → closing_of c ≡ stopped z → read last (rule cur) (drop at s) ≡ stops z → Done (record { count = i; consumed = at; state = cur; closing = c }) new
     going_stops h z c e q = let r = filled_stops rule last n st s g.rows at cur (n - i) z (omega arith) g.read_so_far q in rw r (record { count = sym g.count; consumed = refl; state = refl; closing = e; columns = g.holds })
 
-    pub going_full : n ≤ i → (c : Closing) → closing_of c ≡ full → Done (record { count = i; consumed = at; state = cur; closing = c }) new
+    pub going_full : n ≤ i → (c : Result (Unit {0}) Stopped) → closing_of c ≡ full → Done (record { count = n; consumed = at; state = cur; closing = c }) new
     going_full h c e =
         let none : n - i ≡ 0 = omega (arith, g.low) in
         let r = filled_full rule last n st s g.rows at cur (subst (Filled rule last n st s g.rows at cur) none g.read_so_far) in
-        rw r (record { count = sym g.count; consumed = refl; state = refl; closing = e; columns = g.holds })
+        rw r (record { count = omega (arith, g.count, g.low); consumed = refl; state = refl; closing = e; columns = g.holds })

@@ -1,15 +1,13 @@
 // Fill columns, over all kinds; and what it changes that bytes are told to be the last.
 #![tactic(auto)]
 
-ghost use Rattle.std.specs.Prelude.{◌≡◌, true};
-ghost use Rattle.rules.specs.Rule.{refused};
-ghost use Rattle.rules.specs.Calls.{stopped, nothing};
-ghost use Rattle.reader.specs.Columns.{row_of, Columns, columns, lent_columns, all_equal, equal_lengths, FilledBy, Fills};
+ghost use Rattle.std.specs.Prelude.{◌≡◌, ◌+◌, true};
+ghost use Rattle.reader.specs.Columns.{row_of, held, lent, lent_columns, equal_lengths, Room, put_row, AreTheSame, Fills};
 ghost use Rattle.reader.specs.Last.{LastDiffers};
 
 use chemstation::next_record;
 use error::{Refusal, Stopped};
-use streams::{Next, Record, State};
+use streams::{Record, State};
 
 // A record as a row of six columns; a kind without an axis has 0.0 there, one without a stored time 0 in the last two.
 #[derive(Clone, Copy)]
@@ -22,162 +20,153 @@ pub struct Row {
     pub leftover: u32,
 }
 
-// The row of a record.
-pub fn row_of(r: Record) -> Row
-    ensures { result ≡ row_of r }
-{
-    match r {
-        Record::Trace {
-            time,
-            unscaled,
-            scaled,
-        } => Row {
-            time,
-            axis: 0.0,
-            unscaled,
-            scaled,
-            minutes: 0,
-            leftover: 0,
-        },
-        Record::Mass {
-            time,
-            mz,
-            unscaled,
-            scaled,
-            minutes,
-            leftover,
-        } => Row {
-            time,
-            axis: mz,
-            unscaled,
-            scaled,
-            minutes,
-            leftover,
-        },
-        Record::Spectrum {
-            time,
-            wavelength,
-            unscaled,
-            scaled,
-            minutes,
-            leftover,
-        } => Row {
-            time,
-            axis: wavelength,
-            unscaled,
-            scaled,
-            minutes,
-            leftover,
-        },
+impl From<Record> for Row {
+    ghost from_gives = { λ r row. row ≡ row_of r };
+
+    fn from(r: Record) -> Row {
+        match r {
+            Record::Trace {
+                time,
+                unscaled,
+                scaled,
+            } => Row {
+                time,
+                axis: 0.0,
+                unscaled,
+                scaled,
+                minutes: 0,
+                leftover: 0,
+            },
+            Record::Mass {
+                time,
+                mz: axis,
+                unscaled,
+                scaled,
+                minutes,
+                leftover,
+            }
+            | Record::Spectrum {
+                time,
+                wavelength: axis,
+                unscaled,
+                scaled,
+                minutes,
+                leftover,
+            } => Row {
+                time,
+                axis,
+                unscaled,
+                scaled,
+                minutes,
+                leftover,
+            },
+        }
     }
 }
 
-// What closes a filling.
-#[derive(Clone, Copy)]
-pub enum Closing {
-    Full,
-    Stopped(Stopped),
+// Six lent columns, a place in each for a record.
+// Kept: six slices in place of one of rows, since C has them column by column.
+#[derive(Drop)]
+pub struct Columns<'a> {
+    pub time: &'a mut [f64],
+    pub axis: &'a mut [f64],
+    pub unscaled: &'a mut [f64],
+    pub scaled: &'a mut [f64],
+    pub minutes: &'a mut [u32],
+    pub leftover: &'a mut [u32],
 }
 
-// The count of records, the bytes consumed, the state after the last record, the closing answer.
+impl Columns<'_> {
+    // Whether the six are of one length.
+    pub fn are_even(&self) -> bool
+        ensures { result ≡ equal_lengths (held self.now) }
+    {
+        let n = self.time.len();
+        self.axis.len() == n
+            && self.unscaled.len() == n
+            && self.scaled.len() == n
+            && self.minutes.len() == n
+            && self.leftover.len() == n
+    }
+
+    // Puts a row at place i of all six.
+    pub fn put(&mut self, i: usize, row: Row)
+        requires { Room (i + 1) (held self.old) }
+        ensures same { AreTheSame self.old self.new }
+        ensures held { held self.new ≡ put_row (held self.old) i row }
+    {
+        self.time[i] = row.time;
+        self.axis[i] = row.axis;
+        self.unscaled[i] = row.unscaled;
+        self.scaled[i] = row.scaled;
+        self.minutes[i] = row.minutes;
+        self.leftover[i] = row.leftover;
+    }
+}
+
+// The count of records, the bytes consumed, the state after the last record, the closing answer: Ok where the columns are full.
 #[derive(Clone, Copy)]
 pub struct Filled {
     pub count: usize,
     pub consumed: usize,
     pub state: State,
-    pub closing: Closing,
-}
-
-// The answer to columns of unequal lengths.
-fn unequal(st: State) -> Filled
-    ensures { (old : Columns) → FilledBy (nothing st (stopped (refused 15))) result old old }
-{
-    Filled {
-        count: 0,
-        consumed: 0,
-        state: st,
-        closing: Closing::Stopped(Stopped::Refused(Refusal::LentLength)),
-    }
-}
-
-// Whether six lengths are one.
-pub fn all_equal(
-    time: usize,
-    axis: usize,
-    unscaled: usize,
-    scaled: usize,
-    minutes: usize,
-    leftover: usize,
-) -> bool
-    ensures { result ≡ all_equal time axis unscaled scaled minutes leftover }
-{
-    if axis != time {
-        return false;
-    }
-    if unscaled != time {
-        return false;
-    }
-    if scaled != time {
-        return false;
-    }
-    if minutes != time {
-        return false;
-    }
-    leftover == time
+    pub closing: Result<(), Stopped>,
 }
 
 // Fills columns of one length.
-fn fill_equal(
-    st: State,
-    s: &[u8],
-    last: bool,
-    time: &mut [f64],
-    axis: &mut [f64],
-    unscaled: &mut [f64],
-    scaled: &mut [f64],
-    minutes: &mut [u32],
-    leftover: &mut [u32],
-) -> Filled
-    requires { equal_lengths (columns time.old axis.old unscaled.old scaled.old minutes.old leftover.old) ≡ true }
-    ensures { Fills st s.now last result (lent_columns time axis unscaled scaled minutes leftover) }
+fn fill_equal(st: State, s: &[u8], last: bool, columns: &mut Columns<'_>) -> Filled
+    requires { equal_lengths (held columns.old) ≡ true }
+    ensures same { AreTheSame columns.old columns.new }
+    ensures filled { Fills st s.now last result (lent columns) }
 {
     let mut cur = st;
     let mut at: usize = 0;
-    let mut i: usize = 0;
-    while i < time.len() {
+    let n = columns.time.len();
+    for i in 0..n {
         match next_record(cur, &s[at..], last) {
-            Next::Stopped(z) => {
+            Err(z) => {
                 return Filled {
                     count: i,
                     consumed: at,
                     state: cur,
-                    closing: Closing::Stopped(z),
+                    closing: Err(z),
                 };
             }
-            Next::Given(r, after, k) => {
-                let row = row_of(r);
-                time[i] = row.time;
-                axis[i] = row.axis;
-                unscaled[i] = row.unscaled;
-                scaled[i] = row.scaled;
-                minutes[i] = row.minutes;
-                leftover[i] = row.leftover;
-                cur = after;
-                at += k;
-                i += 1;
+            Ok(given) => {
+                columns.put(i, given.record.into());
+                cur = given.state;
+                at += given.bytes;
             }
         }
     }
     Filled {
-        count: i,
+        count: n,
         consumed: at,
         state: cur,
-        closing: Closing::Full,
+        closing: Ok(()),
     }
 }
 
 // Records until the columns are full or another answer comes. Columns of unequal lengths are refused, and nothing is written.
-pub fn fill_columns(
+pub fn fill_columns(st: State, s: &[u8], last: bool, columns: &mut Columns<'_>) -> Filled
+    ensures same { AreTheSame columns.old columns.new }
+    ensures filled { Fills st s.now last result (lent columns) }
+{
+    if !columns.are_even() {
+        return Filled {
+            count: 0,
+            consumed: 0,
+            state: st,
+            closing: Err(Refusal::LentLength.into()),
+        };
+    }
+    fill_equal(st, s, last, columns)
+}
+
+// The same over six slices.
+// Kept: C has them one by one; and the checker covers no struct that is made of parts of another's slices (tried with parts in the
+// struct, before it and behind a match).
+pub fn fill_slices(
     st: State,
     s: &[u8],
     last: bool,
@@ -190,17 +179,19 @@ pub fn fill_columns(
 ) -> Filled
     ensures { Fills st s.now last result (lent_columns time axis unscaled scaled minutes leftover) }
 {
-    if !all_equal(
-        time.len(),
-        axis.len(),
-        unscaled.len(),
-        scaled.len(),
-        minutes.len(),
-        leftover.len(),
-    ) {
-        return unequal(st);
-    }
-    fill_equal(st, s, last, time, axis, unscaled, scaled, minutes, leftover)
+    fill_columns(
+        st,
+        s,
+        last,
+        &mut Columns {
+            time,
+            axis,
+            unscaled,
+            scaled,
+            minutes,
+            leftover,
+        },
+    )
 }
 
 // Nothing is computed: told that the bytes are the last or not, Open, Next record and Fill columns differ only where a due

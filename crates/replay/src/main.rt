@@ -1,150 +1,139 @@
 // Answers stored cases: frames from standard input, the texts of the answers to standard output.
 #![tactic(auto)]
 
-ghost use Rattle.std.specs.Prelude.{◌+◌, ◌*◌, ◌≤◌, ◌<◌, ◌≡◌, length};
+ghost use Rattle.std.specs.Prelude.{◌+◌, ◌*◌, ◌≤◌, ◌≡◌, length, IfOk, IfSome};
+ghost use Rattle.replay.specs.Pens.{Stays};
 
+use common::Number;
+use digits::Pen;
 use error::Stopped;
-use fetch::{Fetched, fetch_text};
-use metadata::{ChemstationMetadata, Opened};
-use opening::Opening;
-use reader::Closing;
+use fetch::fetch_text;
+use metadata::ChemstationMetadata;
 use std::io::{Read, Write};
 use streams::State;
-use sums::Total;
 
 // ---- output
 
-// Writes what stands in out if there is no room for 32,768 bytes more, and answers where they may begin. What can't be
-// written is missing in the comparison.
-fn room<W: Write>(output: &mut W, out: &[u8], at: usize) -> usize
-    requires { (at ≤ length out.now) × (32768 ≤ length out.now) }
-    ensures { result + 32768 ≤ length out.now }
+// Writes what the pen has put if there is no room for 32,768 bytes more. What can't be written is missing in the comparison.
+fn room<W: Write>(output: &mut W, pen: &mut Pen<'_>)
+    requires { (pen.old.at ≤ length pen.old.out.now) × (32768 ≤ length pen.old.out.now) }
+    ensures room { pen.new.at + 32768 ≤ length pen.new.out.now }
+    ensures stays { Stays pen.old pen.new }
 {
-    if out.len() - at >= 32768 {
-        return at;
+    if pen.out.len() - pen.at < 32768 {
+        write(output, pen);
     }
-    let _ = output.write_all(&out[0..at]);
-    0
+}
+
+// Writes what the pen has put.
+fn write<W: Write>(output: &mut W, pen: &mut Pen<'_>)
+    requires { pen.old.at ≤ length pen.old.out.now }
+    ensures start { pen.new.at ≡ 0 }
+    ensures stays { Stays pen.old pen.new }
+{
+    let n = pen.at;
+    let _ = output.write_all(&pen.out[..n]);
+    pen.at = 0;
 }
 
 // Says what should not be, so that the comparison fails.
-fn complain<W: Write>(output: &mut W, out: &[u8], at: usize, line: &[u8]) -> usize
-    requires { at ≤ length out.now }
-    ensures { result ≡ 0 }
+fn complain<W: Write>(output: &mut W, pen: &mut Pen<'_>, line: &[u8])
+    requires { pen.old.at ≤ length pen.old.out.now }
+    ensures { Stays pen.old pen.new }
 {
-    let _ = output.write_all(&out[0..at]);
+    write(output, pen);
     let _ = output.write_all(line);
-    0
 }
 
-fn wide(b: u8) -> u64
-    ensures { result < 256 }
+// A text, two digits a byte.
+fn put_hex(pen: &mut Pen<'_>, text: &[u8])
+    requires { pen.old.at + 2 * length text.now ≤ length pen.old.out.now }
+    ensures upper_bound { pen.new.at ≡ pen.old.at + 2 * length text.now }
+    ensures stays { Stays pen.old pen.new }
 {
-    b as u64
-}
-
-// The first n bytes of a text, two digits each.
-fn put_hex(out: &mut [u8], at: usize, text: &[u8], n: usize) -> usize
-    requires { (n ≤ length text.now) × (at + 2 * n ≤ length out.old) }
-    ensures { result ≡ at + 2 * n }
-{
-    let mut a = at;
-    let mut i: usize = 0;
-    while i < n {
-        a = digits::put_digits(out, a, 16, 2, wide(text[i]));
-        i += 1;
+    for b in text {
+        pen.put_digits(16, 2, u64::from(*b));
     }
-    a
 }
 
 // ---- the header and its texts
 
-fn put_numbers(out: &mut [u8], at: usize, d: ChemstationMetadata) -> usize
-    requires { at + 65 ≤ length out.old }
-    ensures { result ≤ at + 65 }
+fn put_numbers(pen: &mut Pen<'_>, d: ChemstationMetadata)
+    requires { pen.old.at + 65 ≤ length pen.old.out.now }
+    ensures upper_bound { pen.new.at ≤ pen.old.at + 65 }
+    ensures stays { Stays pen.old pen.new }
 {
-    let a = lines::put_letter(out, at, b'n');
-    let b = digits::put_number(out, a, d.sequence as u64, b' ');
-    let c = digits::put_number(out, b, d.vial as u64, b' ');
-    digits::put_number(out, c, d.replicate as u64, b'\n')
+    lines::put_letter(pen, b'n');
+    pen.put_number(u64::from(d.sequence), b' ');
+    pen.put_number(u64::from(d.vial), b' ');
+    pen.put_number(u64::from(d.replicate), b'\n');
 }
 
-fn put_doubles(out: &mut [u8], at: usize, d: ChemstationMetadata) -> usize
-    requires { at + 70 ≤ length out.old }
-    ensures { result ≤ at + 70 }
+fn put_doubles(pen: &mut Pen<'_>, d: ChemstationMetadata)
+    requires { pen.old.at + 70 ≤ length pen.old.out.now }
+    ensures upper_bound { pen.new.at ≤ pen.old.at + 70 }
+    ensures stays { Stays pen.old pen.new }
 {
-    let a = lines::put_letter(out, at, b'd');
-    let b = lines::put_double(out, a, d.start_time, b' ');
-    let c = lines::put_double(out, b, d.end_time, b' ');
-    let e = lines::put_double(out, c, d.offset_correction, b' ');
-    lines::put_double(out, e, d.mult_correction, b'\n')
+    lines::put_letter(pen, b'd');
+    lines::put_double(pen, d.start_time, b' ');
+    lines::put_double(pen, d.end_time, b' ');
+    lines::put_double(pen, d.offset_correction, b' ');
+    lines::put_double(pen, d.mult_correction, b'\n');
 }
 
-fn put_description(out: &mut [u8], at: usize, d: ChemstationMetadata) -> usize
-    requires { at + 4096 ≤ length out.old }
-    ensures { result ≤ length out.old }
+fn put_description(pen: &mut Pen<'_>, d: ChemstationMetadata)
+    requires { pen.old.at + 4096 ≤ length pen.old.out.now }
+    ensures { Stays pen.old pen.new }
 {
-    let a = lines::put_header(out, at, d.edition, d.size);
-    let b = put_numbers(out, a, d);
-    put_doubles(out, b, d)
+    lines::put_header(pen, d.edition, d.size);
+    put_numbers(pen, d);
+    put_doubles(pen, d);
 }
 
-// The line of a text that was fetched: the first n bytes.
-fn put_found(number: u8, text: &[u8], n: usize, out: &mut [u8], at: usize) -> usize
-    requires { (n ≤ length text.now) × (n ≤ 1024) × (at + 4096 ≤ length out.old) }
-    ensures { result ≤ length out.old }
+// The line of a text that was fetched.
+fn put_found(number: u8, text: &[u8], pen: &mut Pen<'_>)
+    requires { (length text.now ≤ 1024) × (pen.old.at + 4096 ≤ length pen.old.out.now) }
+    ensures { Stays pen.old pen.new }
 {
-    let a = lines::put_letter(out, at, b't');
-    let b = digits::put_number(out, a, number as u64, b' ');
-    let c = put_hex(out, b, text, n);
-    digits::put_byte(out, c, b'\n')
+    lines::put_letter(pen, b't');
+    pen.put_number(u64::from(number), b' ');
+    put_hex(pen, text);
+    pen.put_byte(b'\n');
 }
 
 // The line of a text by its number, fetched into lent memory. What is refused has a closing line.
-fn put_text(kind: u8, number: u8, s: &[u8], lent: &mut [u8], out: &mut [u8], at: usize) -> usize
-    requires { (at + 4096 ≤ length out.old) × (length lent.old ≤ 1024) }
-    ensures { result ≤ length out.old }
+fn put_text(kind: u8, number: u8, s: &[u8], lent: &mut [u8], pen: &mut Pen<'_>)
+    requires { (pen.old.at + 4096 ≤ length pen.old.out.now) × (length lent.old ≤ 1024) }
+    ensures { Stays pen.old pen.new }
 {
     // the units replaced are no part of the original's answer
-    let answer = fetch_text(kind, number, s, lent).answer;
-    match answer {
-        Fetched::Refused(r) => lines::put_end(out, at, Stopped::Refused(r), 0),
-        Fetched::Text(n) => put_found(number, lent, n, out, at),
+    match fetch_text(kind, number, s, lent) {
+        Err(r) => lines::put_end(pen, Stopped::Refused(r), 0),
+        Ok(text) => put_found(number, &lent[..text.bytes], pen),
     }
 }
 
 // The eight texts.
-fn put_texts<W: Write>(kind: u8, s: &[u8], output: &mut W, out: &mut [u8], at: usize) -> usize
-    requires { (at ≤ length out.old) × (32768 ≤ length out.old) }
-    ensures { result ≤ length out.old }
+fn put_texts<W: Write>(kind: u8, s: &[u8], output: &mut W, pen: &mut Pen<'_>)
+    requires { (pen.old.at ≤ length pen.old.out.now) × (32768 ≤ length pen.old.out.now) }
+    ensures { Stays pen.old pen.new }
 {
     let mut lent = [0u8; 1024];
-    let mut a = at;
-    let mut number: u8 = 1;
-    while number < 9 {
-        a = room(output, out, a);
-        a = put_text(kind, number, s, &mut lent, out, a);
-        number += 1;
+    for number in 1..9 {
+        room(output, pen);
+        put_text(kind, number, s, &mut lent, pen);
     }
-    a
 }
 
-fn header_case<W: Write>(kind: u8, s: &[u8], output: &mut W, out: &mut [u8], at: usize) -> usize
-    requires { (at + 4096 ≤ length out.old) × (32768 ≤ length out.old) }
-    ensures { result ≤ length out.old }
+fn header_case<W: Write>(kind: u8, s: &[u8], output: &mut W, pen: &mut Pen<'_>)
+    requires { (pen.old.at + 4096 ≤ length pen.old.out.now) × (32768 ≤ length pen.old.out.now) }
+    ensures { Stays pen.old pen.new }
 {
-    let o = metadata::open_header(kind, s, true);
-    let answer = o.answer;
-    match answer {
-        Opened::Stopped(z) => lines::put_end(out, at, z, 0),
-        Opened::Header {
-            size: _,
-            scans: _,
-            time_step: _,
-        } => {
-            let d = o.metadata;
-            let a = put_description(out, at, d);
-            put_texts(kind, s, output, out, a)
+    match metadata::open_header(kind, s, true) {
+        Err(z) => lines::put_end(pen, z, 0),
+        Ok(o) => {
+            put_description(pen, o.metadata);
+            put_texts(kind, s, output, pen);
         }
     }
 }
@@ -158,207 +147,177 @@ fn put_records<W: Write>(
     from: usize,
     last: bool,
     output: &mut W,
-    out: &mut [u8],
-    at: usize,
-) -> usize
-    requires { (from ≤ length s.now) × (at ≤ length out.old) × (32768 ≤ length out.old) }
-    ensures { result ≤ length out.old }
+    pen: &mut Pen<'_>,
+)
+    requires { (from ≤ length s.now) × (pen.old.at ≤ length pen.old.out.now) × (32768 ≤ length pen.old.out.now) }
+    ensures { Stays pen.old pen.new }
 {
-    let w = runlog::log_records(st, s, from, last, out, at, Total::Absent);
-    let closing = w.closing;
-    let a = room(output, out, w.at);
-    match closing {
-        Closing::Full => complain(output, out, a, b"? a text longer than the buffer\n"),
-        Closing::Stopped(z) => lines::put_end(out, a, z, w.count),
+    let w = runlog::log_records(st, s, from, last, pen, None);
+    room(output, pen);
+    match w.closing {
+        Ok(()) => complain(output, pen, b"? a text longer than the buffer\n"),
+        Err(z) => lines::put_end(pen, z, w.count),
     }
 }
 
-fn log_case<W: Write>(
-    kind: u8,
-    s: &[u8],
-    last: bool,
-    output: &mut W,
-    out: &mut [u8],
-    at: usize,
-) -> usize
-    requires { (at + 4096 ≤ length out.old) × (32768 ≤ length out.old) }
-    ensures { result ≤ length out.old }
+fn log_case<W: Write>(kind: u8, s: &[u8], last: bool, output: &mut W, pen: &mut Pen<'_>)
+    requires { (pen.old.at + 4096 ≤ length pen.old.out.now) × (32768 ≤ length pen.old.out.now) }
+    ensures { Stays pen.old pen.new }
 {
-    let o = opening::open_run(kind, s, last);
-    let answer = o.answer;
-    let d = o.metadata;
-    match answer {
-        Opening::Stopped(z) => lines::put_end(out, at, z, 0),
-        Opening::Run(state, n) => {
-            let a = lines::put_header(out, at, d.edition, d.size);
-            put_records(state, s, n, last, output, out, a)
+    match opening::open_run(kind, s, last) {
+        Err(z) => lines::put_end(pen, z, 0),
+        Ok(run) => {
+            lines::put_header(pen, run.metadata.edition, run.metadata.size);
+            put_records(run.state, s, run.size, last, output, pen);
         }
     }
 }
 
 // ---- cases
 
-// A case in the mode of its letter.
-fn answer<W: Write>(
-    mode: u8,
-    kind: u8,
-    s: &[u8],
-    output: &mut W,
-    out: &mut [u8],
-    at: usize,
-) -> usize
-    requires { (at + 4096 ≤ length out.old) × (32768 ≤ length out.old) }
-    ensures { result ≤ length out.old }
-{
-    match mode {
-        b'h' => header_case(kind, s, output, out, at),
-        b'w' => log_case(kind, s, true, output, out, at),
-        b's' => log_case(kind, s, false, output, out, at),
-        _ => complain(output, out, at, b"? no such mode\n"),
+// What a case asks for.
+#[derive(Clone, Copy)]
+enum Case {
+    Header,
+    // a log, all bytes of the file at hand
+    Whole,
+    // a log, more bytes may follow
+    Part,
+    Fetch,
+}
+
+// No letter of a case.
+#[derive(Drop)]
+struct NoCase;
+
+impl TryFrom<u8> for Case {
+    type Error = NoCase;
+
+    fn try_from(letter: u8) -> Result<Case, NoCase> {
+        match letter {
+            b'h' => Ok(Case::Header),
+            b'w' => Ok(Case::Whole),
+            b's' => Ok(Case::Part),
+            b'f' => Ok(Case::Fetch),
+            _ => Err(NoCase),
+        }
     }
 }
 
 // Fetch alone: the number of the text, the length of the memory to lend, the kind digit, the file.
-fn fetch_case<W: Write>(s: &[u8], output: &mut W, out: &mut [u8], at: usize) -> usize
-    requires { (at + 4096 ≤ length out.old) × (32768 ≤ length out.old) }
-    ensures { result ≤ length out.old }
+fn fetch_case<W: Write>(s: &[u8], output: &mut W, pen: &mut Pen<'_>)
+    requires { (pen.old.at + 4096 ≤ length pen.old.out.now) × (32768 ≤ length pen.old.out.now) }
+    ensures { Stays pen.old pen.new }
 {
     if s.len() < 3 {
-        return complain(output, out, at, b"? a case that is cut\n");
+        return complain(output, pen, b"? a case that is cut\n");
     }
     let mut lent = [0u8; 1024];
-    let n = wide(s[1]) as usize;
-    put_text(
-        digits::kind_of(s[2]),
-        s[0],
-        &s[3..],
-        &mut lent[0..n],
-        out,
-        at,
-    )
+    let n = usize::from(s[1]);
+    let kind = digits::kind_of(s[2]);
+    put_text(kind, s[0], &s[3..], &mut lent[..n], pen)
 }
 
-// The case of a frame: a letter, a kind digit that may be missing, and the file.
-fn put_case<W: Write>(s: &[u8], number: u64, output: &mut W, out: &mut [u8], at: usize) -> usize
-    requires { (at ≤ length out.old) × (32768 ≤ length out.old) }
-    ensures { result ≤ length out.old }
+// A case by its letter, what stands behind it: a kind digit that may be missing, and the file.
+fn answer<W: Write>(case: Case, s: &[u8], output: &mut W, pen: &mut Pen<'_>)
+    requires { (pen.old.at + 4096 ≤ length pen.old.out.now) × (32768 ≤ length pen.old.out.now) }
+    ensures { Stays pen.old pen.new }
 {
-    let a = room(output, out, at);
-    let b = lines::put_letter(out, a, b'=');
-    let c = digits::put_number(out, b, number, b'\n');
-    if s.len() == 0 {
-        return complain(output, out, c, b"? an empty frame\n");
+    let kind = digits::kind_of(s.first().copied().unwrap_or(0));
+    let file = s.get(1..).unwrap_or(b"");
+    match case {
+        Case::Header => header_case(kind, file, output, pen),
+        Case::Whole => log_case(kind, file, true, output, pen),
+        Case::Part => log_case(kind, file, false, output, pen),
+        Case::Fetch => fetch_case(s, output, pen),
     }
-    if s[0] == b'f' {
-        return fetch_case(&s[1..], output, out, c);
+}
+
+// The case of a frame, behind its number.
+fn put_case<W: Write>(s: &[u8], number: u64, output: &mut W, pen: &mut Pen<'_>)
+    requires { (pen.old.at ≤ length pen.old.out.now) × (32768 ≤ length pen.old.out.now) }
+    ensures { Stays pen.old pen.new }
+{
+    room(output, pen);
+    lines::put_letter(pen, b'=');
+    pen.put_number(number, b'\n');
+    if s.is_empty() {
+        return complain(output, pen, b"? an empty frame\n");
     }
-    if s.len() == 1 {
-        return answer(s[0], 0, b"", output, out, c);
+    match Case::try_from(s[0]) {
+        Ok(case) => answer(case, &s[1..], output, pen),
+        Err(_) => complain(output, pen, b"? no such mode\n"),
     }
-    answer(s[0], digits::kind_of(s[1]), &s[2..], output, out, c)
 }
 
 // ---- input
 
 // Reads until the buffer is full, the input ends or a read fails, and answers how many bytes came.
+// Kept: (d) `read_exact` tells no count, and a failed read ends the frame as the input's end does.
 fn read_full<R: Read>(input: &mut R, buf: &mut [u8]) -> usize
     ensures { result ≤ length buf.old }
 {
     let mut done: usize = 0;
     while done < buf.len() {
         match input.read(&mut buf[done..]) {
-            Ok(0) => return done,
+            Ok(0) | Err(_) => return done,
             Ok(n) => done += n,
-            Err(_) => return done,
         }
     }
     done
 }
 
+// What is wrong with a frame.
 #[derive(Clone, Copy)]
-enum Status {
-    Whole,
-    // there is no further frame
-    End,
-    // the input ends within the frame
+enum Fault {
+    // the input ends within it
     Cut,
-    // the frame is longer than the buffer
+    // it is longer than the buffer
     TooLong,
 }
 
-// The next frame: how many bytes of the buffer it has, none unless it is whole.
-#[derive(Clone, Copy)]
-struct Frame {
-    status: Status,
-    bytes: usize,
+impl Fault {
+    fn line(self) -> &'static [u8] {
+        match self {
+            Fault::Cut => b"? a frame that is cut\n",
+            Fault::TooLong => b"? a frame longer than the buffer\n",
+        }
+    }
 }
 
-fn next_frame<R: Read>(input: &mut R, buf: &mut [u8]) -> Frame
-    ensures { result.bytes ≤ length buf.old }
+// The next frame: how many bytes of the buffer it has, and none where the input has ended.
+fn next_frame<R: Read>(input: &mut R, buf: &mut [u8]) -> Result<Option<usize>, Fault>
+    ensures { IfOk result (λ frame. IfSome frame (λ n. n ≤ length buf.old)) }
 {
     let mut head = [0u8; 4];
-    let k = read_full(input, &mut head);
-    if k == 0 {
-        return Frame {
-            status: Status::End,
-            bytes: 0,
-        };
+    match read_full(input, &mut head) {
+        0 => return Ok(None),
+        1..=3 => return Err(Fault::Cut),
+        _ => {}
     }
-    if k < 4 {
-        return Frame {
-            status: Status::Cut,
-            bytes: 0,
-        };
-    }
-    let n = common::be_u32(&head, 0) as usize;
+    let n = u32::be_at(&head, 0) as usize;
     if n > buf.len() {
-        return Frame {
-            status: Status::TooLong,
-            bytes: 0,
-        };
+        return Err(Fault::TooLong);
     }
-    if read_full(input, &mut buf[0..n]) < n {
-        return Frame {
-            status: Status::Cut,
-            bytes: 0,
-        };
+    if read_full(input, &mut buf[..n]) < n {
+        return Err(Fault::Cut);
     }
-    Frame {
-        status: Status::Whole,
-        bytes: n,
-    }
+    Ok(Some(n))
 }
 
 // All frames. What is wrong with the input is said, so that no case is passed over in silence.
 fn replay<R: Read, W: Write>(input: &mut R, output: &mut W, buf: &mut [u8], out: &mut [u8])
     requires { 32768 ≤ length out.old }
 {
-    let mut at: usize = 0;
-    let mut number: u64 = 0;
-    while number < u64::MAX {
-        number += 1;
-        let f = next_frame(input, buf);
-        let n = f.bytes;
-        let status = f.status;
-        match status {
-            Status::Whole => {
-                at = put_case(&buf[0..n], number, output, out, at);
-            }
-            Status::End => {
-                let _ = output.write_all(&out[0..at]);
-                return;
-            }
-            Status::Cut => {
-                complain(output, out, at, b"? a frame that is cut\n");
-                return;
-            }
-            Status::TooLong => {
-                complain(output, out, at, b"? a frame longer than the buffer\n");
-                return;
-            }
+    let mut pen = Pen { out, at: 0 };
+    for number in 0..u64::MAX {
+        match next_frame(input, buf) {
+            Ok(Some(n)) => put_case(&buf[..n], number + 1, output, &mut pen),
+            Ok(None) => return write(output, &mut pen),
+            Err(fault) => return complain(output, &mut pen, fault.line()),
         }
     }
-    complain(output, out, at, b"? more frames than can be numbered\n");
+    complain(output, &mut pen, b"? more frames than can be numbered\n");
 }
 
 fn main(rt: HostRuntime) {

@@ -1,4 +1,3 @@
 pub mod Logs
-mod Moves
 mod Exists
 pub mod Cuts

@@ -18,19 +18,20 @@ use Rattle.chemstation.proofs.Progress.{record_takes}
 use Rattle.streams.specs.declared.State.{State}
 use Rattle.streams.specs.declared.Record.{Record}
 use Rattle.streams.specs.declared.Record.TheVariants.{Trace, Mass, Spectrum}
-use Rattle.digits.specs.Put.{Put}
+use Rattle.digits.specs.Put.{Puts}
+use Rattle.digits.specs.declared.Pen.{Pen}
 use Rattle.lines.specs.Lines.{record_line}
 use Rattle.reader.specs.Columns.{closing_of}
-use Rattle.reader.specs.declared.Closing.{Closing}
+use Rattle.std.specs.Prelude.{Result}
+use Rattle.error.specs.declared.Stopped.{Stopped}
 use lib.Ieee.{Float}
-use Rattle.sums.specs.Sums.{plus, total_from}
-use Rattle.sums.specs.declared.Total.{Total}
+use Rattle.sums.specs.Sums.{AnyTotal, plus, total_from}
 use Rattle.tally.specs.Tally.{start_of}
 use Rattle.tally.specs.declared.Tally.{Tally}
 use Rattle.runlog.specs.declared.Logged.{Logged}
 use Rattle.streams.specs.Next.{unscaled_of}
 use Rattle.runlog.specs.Runs.{unscaled, lines_of, go_on_by, read_into, logged, LoggedBy}
-use Rattle.digits.proofs.Puts.{put_as, put_then, put_none}
+use Rattle.digits.proofs.Puts.{puts_as, puts_then, puts_none}
 
 pub lines_append : (rs ss : List Record) → lines_of (rs ++ ss) ≡ lines_of rs ++ lines_of ss
 unfolding lines_of
@@ -132,66 +133,70 @@ read_few (suc most) room last st bs =
 -- ---- the loop
 
 -- one value more
-total_more : (t : Total) (rs : List Record) (r : Record) → plus (total_from t (unscaled rs)) (unscaled_of r) ≡ total_from t (unscaled (rs ++ (r ∷ [])))
+total_more : (t : AnyTotal) (rs : List Record) (r : Record) → plus (total_from t (unscaled rs)) (unscaled_of r) ≡ total_from t (unscaled (rs ++ (r ∷ [])))
 total_more t [] r = refl
 total_more t (x ∷ rs) r = total_more (plus t (unscaled_of x)) rs r
 
 -- the total before, by the tally that it was put into
-pub logged_as : {g : Reading State Record} {first : ℕ} {old : List ℕ} {at : ℕ} {s : Tally} {t : Total} {r : Logged} {new : List ℕ} → s ≡ start_of t → LoggedBy g first old at s.far r new → LoggedBy g first old at t r new
-logged_as {g} {first} {old} {at} {r = r} {new} e l = subst (λ (x : Tally). LoggedBy g first old at x.far r new) e l
+pub logged_as : {g : Reading State Record} {first : ℕ} {p q : Pen} {s : Tally} {t : AnyTotal} {r : Logged} → s ≡ start_of t → LoggedBy g first p s.far r q → LoggedBy g first p t r q
+logged_as {g} {first} {p} {q} {r = r} e l = subst (λ (x : Tally). LoggedBy g first p x.far r q) e l
 
-module _ (last : Bool) (st : State) (src : List ℕ) (from : ℕ) (old : List ℕ) (at : ℕ) (total : Total) where
+-- the room that a pen has
+abbrev pub room_of : Pen → ℕ
+room_of p = length p.out.now - p.at
+
+module _ (last : Bool) (st : State) (src : List ℕ) (from : ℕ) (p : Pen) (total : AnyTotal) where
   abbrev all : Reading State Record
-  all = logged (length old - at) last st (drop from src)
+  all = logged (room_of p) last st (drop from src)
 
-  abbrev left : List ℕ → State → ℕ → ℕ → Reading State Record
-  left new cur f a = logged (length new - a) last cur (drop f src)
+  abbrev left : Pen → State → ℕ → Reading State Record
+  left q cur f = logged (room_of q) last cur (drop f src)
 
   -- the records read so far, and what is left: together they are all
-  pub record Logging (new : List ℕ) (cur : State) (f a count : ℕ) (sum : Total) : Type 0 where
+  pub record Logging (q : Pen) (cur : State) (f count : ℕ) (sum : AnyTotal) : Type 0 where
     pub done : List Record
-    pub records : all.records ≡ done ++ (left new cur f a).records
-    pub taken : from + all.consumed ≡ f + (left new cur f a).consumed
-    pub state : all.state ≡ (left new cur f a).state
-    pub closing : all.closing ≡ (left new cur f a).closing
+    pub records : all.records ≡ done ++ (left q cur f).records
+    pub taken : from + all.consumed ≡ f + (left q cur f).consumed
+    pub state : all.state ≡ (left q cur f).state
+    pub closing : all.closing ≡ (left q cur f).closing
     pub inside : f ≤ length src
-    pub put : Put (lines_of done) at old a new
+    pub put : Puts (lines_of done) p q
     pub counted : count ≡ length done
-    pub few : count ≤ a
+    pub few : count ≤ q.at
     pub added : sum ≡ total_from total (unscaled done)
 
-  pub logging_start : from ≤ length src → at ≤ length old → Logging old st from at 0 total
+  pub logging_start : from ≤ length src → p.at ≤ length p.out.now → Logging p st from 0 total
   unfolding lines_of
-  logging_start h k = record { done = []; records = refl; taken = refl; state = refl; closing = refl; inside = h; put = put_none k; counted = refl; few = omega arith; added = refl }
+  logging_start h k = record { done = []; records = refl; taken = refl; state = refl; closing = refl; inside = h; put = puts_none k; counted = refl; few = omega arith; added = refl }
 
-  pub logging_more : (new : List ℕ) (cur : State) (f a count : ℕ) (sum : Total) (r : Record) (after : State) (k b : ℕ) (next : List ℕ) → Logging new cur f a count sum → 70 ≤ length new - a →
-      read last (rule cur) (drop f src) ≡ got (record { shows = r; after = after }) k → Put (record_line r) a new b next → Logging next after (f + k) b (count + 1) (plus sum (unscaled_of r))
+  pub logging_more : (q : Pen) (cur : State) (f count : ℕ) (sum : AnyTotal) (r : Record) (after : State) (k : ℕ) (next : Pen) → Logging q cur f count sum → 70 ≤ room_of q →
+      read last (rule cur) (drop f src) ≡ got (record { shows = r; after = after }) k → Puts (record_line r) q next → Logging next after (f + k) (count + 1) (plus sum (unscaled_of r))
   unfolding lines_of
-  logging_more new cur f a count sum r after k b next g h e p =
-      let room : length new - a - length (record_line r) ≡ length next - b = omega (arith, p.next, p.same, p.fits) in
-      let step : left new cur f a ≡ ahead r k (left next after (f + k) b) =
-      logged_got (length new - a) last cur (drop f src) h e ∙ ap₂ (λ n l. ahead r k (logged n last after l)) room (drop-drop k f src) in
+  logging_more q cur f count sum r after k next g h e p =
+      let room : room_of q - length (record_line r) ≡ room_of next = omega (arith, p.put.next, p.put.same, p.put.fits) in
+      let step : left q cur f ≡ ahead r k (left next after (f + k)) =
+      logged_got (room_of q) last cur (drop f src) h e ∙ ap₂ (λ n l. ahead r k (logged n last after l)) room (drop-drop k f src) in
       record {
         done = g.done ++ (r ∷ []);
-        records = g.records ∙ ap (λ w. g.done ++ w.records) step ∙ sym (append_assoc g.done (r ∷ []) (left next after (f + k) b).records);
-        taken = g.taken ∙ ap (λ w. f + w.consumed) step ∙ sym (add_assoc f k (left next after (f + k) b).consumed);
+        records = g.records ∙ ap (λ w. g.done ++ w.records) step ∙ sym (append_assoc g.done (r ∷ []) (left next after (f + k)).records);
+        taken = g.taken ∙ ap (λ w. f + w.consumed) step ∙ sym (add_assoc f k (left next after (f + k)).consumed);
         state = g.state ∙ ap (λ w. w.state) step;
         closing = g.closing ∙ ap (λ w. w.closing) step;
         inside = omega (arith, taken_within last (rule cur) (drop f src) e, length-drop f src, g.inside);
-        put = put_as (ap (λ t. lines_of g.done ++ t) (sym (append-nil (record_line r))) ∙ sym (lines_append g.done (r ∷ []))) (put_then g.put p);
+        put = puts_as (ap (λ t. lines_of g.done ++ t) (sym (append-nil (record_line r))) ∙ sym (lines_append g.done (r ∷ []))) (puts_then g.put p);
         counted = ap (λ n. n + 1) g.counted ∙ sym (length-append g.done (r ∷ []));
-        few = omega (arith, g.few, p.next, line_some r);
+        few = omega (arith, g.few, p.put.next, line_some r);
         added = ap (λ t. plus t (unscaled_of r)) g.added ∙ total_more total g.done r;
       }
 
   -- the same total, said otherwise
-  pub summed : {new : List ℕ} {cur : State} {f a count : ℕ} {s t : Total} → s ≡ t → Logging new cur f a count t → Logging new cur f a count s
-  summed {new} {cur} {f} {a} {count} e g = subst (Logging new cur f a count) (sym e) g
+  pub summed : {q : Pen} {cur : State} {f count : ℕ} {s t : AnyTotal} → s ≡ t → Logging q cur f count t → Logging q cur f count s
+  summed {q} {cur} {f} {count} e g = subst (Logging q cur f count) (sym e) g
 
   -- where nothing is left, by the answer that the loop stopped at
-  pub logging_end : (new : List ℕ) (cur : State) (f a count : ℕ) (sum : Total) (c : Closing) → Logging new cur f a count sum → left new cur f a ≡ nothing cur (closing_of c) →
-      LoggedBy all from old at total (record { state = cur; from = f; at = a; count = count; total = sum; closing = c }) new
-  logging_end new cur f a count sum c g e =
+  pub logging_end : (q : Pen) (cur : State) (f count : ℕ) (sum : AnyTotal) (c : Result (Unit {0}) Stopped) → Logging q cur f count sum → left q cur f ≡ nothing cur (closing_of c) →
+      LoggedBy all from p total (record { state = cur; from = f; count = count; total = sum; closing = c }) q
+  logging_end q cur f count sum c g e =
       let rs : all.records ≡ g.done = g.records ∙ ap (λ w. g.done ++ w.records) e ∙ append-nil g.done in
       record {
         state = sym (g.state ∙ ap (λ w. w.state) e);
@@ -199,5 +204,5 @@ module _ (last : Bool) (st : State) (src : List ℕ) (from : ℕ) (old : List �
         count = g.counted ∙ ap length (sym rs);
         closing = sym (g.closing ∙ ap (λ w. w.closing) e);
         total = g.added ∙ ap (λ l. total_from total (unscaled l)) (sym rs);
-        put = put_as (ap lines_of (sym rs)) g.put;
+        put = puts_as (ap lines_of (sym rs)) g.put;
       }

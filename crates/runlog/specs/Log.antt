@@ -1,5 +1,5 @@
 -- The log of a file, read through a buffer: document 01, 'The log program', and request 1.
-use Rattle.std.specs.Prelude.{ℕ, ◌≤◌, ◌<◌, ◌≡◌, true, false, cond, List, [], ◌∷◌, ◌++◌, eqb, ltb, pos, length, take, drop}
+use Rattle.std.specs.Prelude.{ℕ, ◌≤◌, ◌<◌, ◌≡◌, true, false, cond, List, [], ◌∷◌, ◌++◌, eqb, ltb, pos, length, take, drop, Some, None, Ok, Err}
 use Rattle.rules.specs.Rule.{Rule, Stop, more_bytes, Read, got, stops, read}
 use Rattle.rules.specs.Calls.{Item}
 use Rattle.metadata.specs.Metadata.{Header}
@@ -8,9 +8,7 @@ use Rattle.streams.specs.declared.State.{State}
 use Rattle.streams.specs.declared.Record.{Record}
 use Rattle.streams.specs.declared.Mode.{Mode}
 use Rattle.modes.specs.Modes.{open_by, begins_by}
-use Rattle.sums.specs.Sums.{total_from}
-use Rattle.sums.specs.declared.Total.{Total}
-use Rattle.sums.specs.declared.Total.TheVariants.{Absent, Amount}
+use Rattle.sums.specs.Sums.{AnyTotal, total_from}
 use Rattle.lines.specs.Lines.{header_line, total_line, end_line}
 use Rattle.runlog.specs.Runs.{lines_of, unscaled}
 
@@ -27,11 +25,11 @@ abbrev pub header_text : Header → List ℕ
 header_text h = header_line h.says.edition h.says.size
 
 -- request 1: 'Kind 6 and a refused opening print no t line'
-abbrev pub first_total : ℕ → Total
-first_total kind = cond (eqb kind 6) Absent (Amount (pos 0))
+abbrev pub first_total : ℕ → AnyTotal
+first_total kind = cond (eqb kind 6) None (Some (Ok (pos 0)))
 
 -- the t line of the records, then e: 'just before `e`'
-abbrev pub foot_text : Total → List Record → Stop → ℕ → List ℕ
+abbrev pub foot_text : AnyTotal → List Record → Stop → ℕ → List ℕ
 foot_text t rs z count = total_line (total_from t (unscaled rs)) ++ end_line z count
 
 -- h, the lines of the records, t, e

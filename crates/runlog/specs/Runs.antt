@@ -7,9 +7,9 @@ use Rattle.streams.specs.Next.{unscaled_of}
 use Rattle.streams.specs.declared.State.{State}
 use Rattle.streams.specs.declared.Record.{Record}
 use Rattle.reader.specs.Columns.{closing_of}
-use Rattle.sums.specs.Sums.{total_from}
-use Rattle.sums.specs.declared.Total.{Total}
-use Rattle.digits.specs.Put.{Put}
+use Rattle.sums.specs.Sums.{AnyTotal, total_from}
+use Rattle.digits.specs.Put.{Puts}
+use Rattle.digits.specs.declared.Pen.{Pen}
 use Rattle.lines.specs.Lines.{record_line}
 use Rattle.runlog.specs.declared.Logged.{Logged}
 
@@ -36,12 +36,12 @@ unscaled rs = map unscaled_of rs
 abbrev pub logged : ℕ → Bool → State → List ℕ → Reading State Record
 logged room last st bs = read_into room room last st bs
 
--- the answer r and the lent memory before and after, by what is read and the total before it: the lines of the records are put, and only they
-pub record LoggedBy (g : Reading State Record) (first : ℕ) (old : List ℕ) (at : ℕ) (t : Total) (r : Logged) (new : List ℕ) : Type 0 where
+-- the answer r and the pen before and after, by what is read and the total before it: the lines of the records are put, and only they
+pub record LoggedBy (g : Reading State Record) (first : ℕ) (p : Pen) (t : AnyTotal) (r : Logged) (q : Pen) : Type 0 where
   pub state : r.state ≡ g.state
   pub from : r.from ≡ first + g.consumed
   pub count : r.count ≡ length g.records
   pub closing : closing_of r.closing ≡ g.closing
   -- request 1: 'the unscaled values of the r lines printed'
   pub total : r.total ≡ total_from t (unscaled g.records)
-  pub put : Put (lines_of g.records) at old r.at new
+  pub put : Puts (lines_of g.records) p q

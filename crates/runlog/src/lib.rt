@@ -5,9 +5,11 @@ ghost use Rattle.std.specs.Prelude.{◌-◌, ◌≤◌, ◌≡◌, ◌++◌, len
 ghost use Rattle.runlog.specs.Runs.{logged, LoggedBy};
 ghost use Rattle.runlog.specs.Log.{OneLog};
 
-use reader::Closing;
-use streams::{Next, State};
+use digits::Pen;
+use error::Stopped;
+use streams::State;
 use sums::Total;
+use tally::Tally;
 
 // How far a part of the bytes was logged.
 #[derive(Clone, Copy)]
@@ -16,50 +18,46 @@ pub struct Logged {
     pub state: State,
     // the first byte that is not consumed
     pub from: usize,
-    // the index behind the last line
-    pub at: usize,
     pub count: usize,
     // what the unscaled values add up to
     pub total: Total,
-    pub closing: Closing,
+    // Ok: the room for lines is used up
+    pub closing: Result<(), Stopped>,
 }
 
-// Reads records from src at index from on, adds their unscaled values to the total and puts their lines into out from index at
-// on, until out has no room for a line or there is another answer than a record.
+// Reads records from src at index from on, adds their unscaled values to the total and puts their lines by the pen, until its memory
+// has no room for a line or there is another answer than a record.
 pub fn log_records(
     st: State,
     src: &[u8],
     from: usize,
     last: bool,
-    out: &mut [u8],
-    at: usize,
+    pen: &mut Pen<'_>,
     total: Total,
 ) -> Logged
-    requires { (from ≤ length src.now) × (at ≤ length out.old) }
-    ensures { LoggedBy (logged (length out.old - at) last st (drop from src.now)) from out.old at total result out.new }
+    requires { (from ≤ length src.now) × (pen.old.at ≤ length pen.old.out.now) }
+    ensures { LoggedBy (logged (length pen.old.out.now - pen.old.at) last st (drop from src.now)) from pen.old total result pen.new }
 {
     let mut cur = st;
     let mut f = from;
-    let mut a = at;
     let mut count: usize = 0;
-    let mut sum = tally::start(total);
-    while out.len() - a >= 70 {
+    let mut sum = Tally::start(total);
+    while pen.out.len() - pen.at >= 70 {
         match chemstation::next_record(cur, &src[f..], last) {
-            Next::Stopped(z) => {
+            Err(z) => {
                 return Logged {
                     state: cur,
                     from: f,
-                    at: a,
                     count,
-                    total: tally::total_of(sum),
-                    closing: Closing::Stopped(z),
+                    total: sum.total(),
+                    closing: Err(z),
                 };
             }
-            Next::Given(r, after, k) => {
-                sum = tally::add(sum, streams::unscaled_of(r));
-                a = lines::put_record(out, a, r);
-                cur = after;
-                f += k;
+            Ok(given) => {
+                sum = sum.add(given.record.unscaled());
+                lines::put_record(pen, given.record);
+                cur = given.state;
+                f += given.bytes;
                 count += 1;
             }
         }
@@ -67,10 +65,9 @@ pub fn log_records(
     Logged {
         state: cur,
         from: f,
-        at: a,
         count,
-        total: tally::total_of(sum),
-        closing: Closing::Full,
+        total: sum.total(),
+        closing: Ok(()),
     }
 }
 
@@ -79,13 +76,8 @@ pub fn compact(buf: &mut [u8], from: usize, to: usize) -> usize
     requires { (from ≤ to) × (to ≤ length buf.old) }
     ensures { (result ≡ to - from) × (buf.new ≡ take result (drop from buf.old) ++ drop result buf.old) }
 {
-    let n = to - from;
-    let mut i: usize = 0;
-    while i < n {
-        buf[i] = buf[from + i];
-        i += 1;
-    }
-    n
+    buf.copy_within(from..to, 0);
+    to - from
 }
 
 // Nothing to compute: the contract is the theorem that every file has one log, and what the buffer's size is to it.

@@ -17,10 +17,9 @@ use Rattle.streams.specs.declared.Mode.{Mode}
 use Rattle.modes.specs.Modes.{open_by, begins_by}
 use Rattle.streams.specs.declared.State.{State}
 use Rattle.streams.specs.declared.Record.{Record}
-use Rattle.sums.specs.declared.Total.{Total}
 use Rattle.lines.specs.Lines.{total_line, end_line, record_line}
 use Rattle.lines.specs.Left.{left_line, too_long_line}
-use Rattle.sums.specs.Sums.{total_from}
+use Rattle.sums.specs.Sums.{AnyTotal, total_from}
 use Rattle.runlog.specs.Log.{header_text, first_total}
 use Rattle.runlog.specs.Runs.{lines_of, unscaled, logged, read_into}
 use Rattle.runlog.proofs.Logs.{by_step, no_room, read_inside, read_room, read_some, read_few}
@@ -158,7 +157,7 @@ module _ (p : Place) (st : State) (buf out : List ℕ) (low_bytes : p.from ≤ p
   abbrev count : ℕ
   count = p.count + length reading.records
 
-  abbrev total : Total
+  abbrev total : AnyTotal
   total = total_from p.total (unscaled reading.records)
 
   abbrev next : Place

@@ -1,4 +1,5 @@
 -- How long the lines of a log are at most, in bytes.
+use Rattle.std.specs.Prelude.{Option, Some, None}
 use mathlib.Core.Path.{◌≡◌}
 use mathlib.Core.Bool.{Bool, true, false, cond}
 use mathlib.Core.List.{List, [], ◌∷◌, ◌++◌}
@@ -9,13 +10,9 @@ use lib.Ieee.{Float}
 use lib.ListN.{length, take, drop, length-append, length-drop}
 use lib.Seq.{length-take-le}
 use lib.IntN.{pos, negsuc}
-use Rattle.sums.specs.declared.Total.{Total}
-use Rattle.sums.specs.declared.Total.TheVariants.{Absent, Amount, Refused}
 use Rattle.rules.specs.Rule.{Stop, refused, finished, more_bytes}
 use Rattle.metadata.specs.Metadata.{Header}
 use Rattle.floats.specs.Doubles.{bits_of}
-use Rattle.floats.specs.declared.Bits.{Bits}
-use Rattle.floats.specs.declared.Bits.TheVariants.{Nan, Pattern}
 use Rattle.streams.specs.declared.State.{State}
 use Rattle.streams.specs.declared.Record.{Record}
 use Rattle.streams.specs.declared.Record.TheVariants.{Trace, Mass, Spectrum}
@@ -27,6 +24,8 @@ use Rattle.runlog.specs.Log.{header_text}
 use Rattle.runlog.specs.Runs.{lines_of, read_into}
 use Rattle.runlog.proofs.Logs.{by_step}
 use Rattle.places.specs.Machine.{put_at}
+use Rattle.std.specs.Prelude.{Some, None, Ok, Err}
+use Rattle.sums.specs.Sums.{AnyTotal}
 
 -- ---- fields
 
@@ -34,10 +33,10 @@ number_long : (n sep : ℕ) → length (number n sep) ≤ 21
 unfolding decimal
 number_long n sep = omega (arith, length-append (decimal n) (sep ∷ []), length_digits 10 (places 19 n) n, places_low 19 n)
 
-bits_long : (b : Bits) → length (bits_text b) ≤ 16
+bits_long : (b : Option ℕ) → length (bits_text b) ≤ 16
 unfolding bits_text
-bits_long Nan = omega arith
-bits_long (Pattern n) = omega (arith, length_digits 16 16 n)
+bits_long None = omega arith
+bits_long (Some n) = omega (arith, length_digits 16 16 n)
 
 double_long : (x : Float) (sep : ℕ) → length (double_text x sep) ≤ 17
 double_long x sep = omega (arith, length-append (bits_text (bits_of x)) (sep ∷ []), bits_long (bits_of x))
@@ -69,14 +68,14 @@ answer_long more_bytes = omega arith
 end_long : (z : Stop) (count : ℕ) → length (end_line z count) ≤ 44
 end_long z count = omega (arith, length-append (answer_text z) (number count 10), answer_long z, number_long count 10)
 
-pub total_long : (t : Total) → length (total_line t) ≤ 24
-total_long Absent = omega arith
-total_long (Refused c) = omega arith
-total_long (Amount (pos n)) = omega (arith, number_long n 10)
-total_long (Amount (negsuc n)) = omega (arith, number_long (suc n) 10)
+pub total_long : (t : AnyTotal) → length (total_line t) ≤ 24
+total_long None = omega arith
+total_long (Some (Err c)) = omega arith
+total_long (Some (Ok (pos n))) = omega (arith, number_long n 10)
+total_long (Some (Ok (negsuc n))) = omega (arith, number_long (suc n) 10)
 
 -- t and e
-pub foot_long : (t : Total) (z : Stop) (count : ℕ) → length (total_line t ++ end_line z count) ≤ 68
+pub foot_long : (t : AnyTotal) (z : Stop) (count : ℕ) → length (total_line t ++ end_line z count) ≤ 68
 foot_long t z count = omega (arith, length-append (total_line t) (end_line z count), total_long t, end_long z count)
 
 -- ---- lines on standard error

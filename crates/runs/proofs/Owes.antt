@@ -21,9 +21,8 @@ use Rattle.streams.specs.Next.{unscaled_of}
 use Rattle.streams.specs.declared.State.{State}
 use Rattle.streams.specs.declared.Record.{Record}
 use Rattle.digits.specs.Numbers.{kind_of}
-use Rattle.sums.specs.Sums.{plus, total_from}
-use Rattle.sums.specs.declared.Total.{Total}
-use Rattle.sums.specs.declared.Total.TheVariants.{Absent}
+use Rattle.std.specs.Prelude.{Some, None, Ok, Err}
+use Rattle.sums.specs.Sums.{AnyTotal, plus, total_from}
 use Rattle.lines.specs.Lines.{record_line, total_line, end_line}
 use Rattle.lines.specs.Left.{left_line}
 use Rattle.runlog.specs.Runs.{lines_of, unscaled, go_on_by, read_into, logged}
@@ -42,13 +41,13 @@ use Rattle.runs.specs.Whole.{LogOfInput, no_digit, a_digit, Writes, closed, writ
 -- ---- the text of a log from a state on
 
 -- with so many records before, and what they add up to: the lines of the records behind it, t and e
-pub record RestOf (size : ℕ) (st : State) (bs : List ℕ) (count : ℕ) (t : Total) (z : Stop) (v : List ℕ) : Type 0 where
+pub record RestOf (size : ℕ) (st : State) (bs : List ℕ) (count : ℕ) (t : AnyTotal) (z : Stop) (v : List ℕ) : Type 0 where
   pub records : List Record
   pub reads : Reads size st bs records z
   pub text : v ≡ lines_of records ++ foot_text t records z (count + length records)
 
 -- where the rule gives a record it begins with its line
-rest_step : {size : ℕ} {cur : State} {left : List ℕ} {c : ℕ} {t : Total} {z : Stop} {u : List ℕ} (x : Item State Record) (n : ℕ) → RestOf size cur left c t z u → in_buffer size (rule cur) left ≡ got x n →
+rest_step : {size : ℕ} {cur : State} {left : List ℕ} {c : ℕ} {t : AnyTotal} {z : Stop} {u : List ℕ} (x : Item State Record) (n : ℕ) → RestOf size cur left c t z u → in_buffer size (rule cur) left ≡ got x n →
     (v : List ℕ) × (u ≡ record_line x.shows ++ v) × RestOf size x.after (drop n left) (c + 1) (plus t (unscaled_of x.shows)) z v
 unfolding lines_of
 rest_step {c = c} {t = t} {z = z} x n r e =
@@ -62,7 +61,7 @@ rest_step {c = c} {t = t} {z = z} x n r e =
     )
 
 -- where it stops, t and e are left
-rest_stop : {size : ℕ} {cur : State} {left : List ℕ} {c : ℕ} {t : Total} {z : Stop} {u : List ℕ} (y : Stop) → RestOf size cur left c t z u → in_buffer size (rule cur) left ≡ stops y → u ≡ total_line t ++ end_line y c
+rest_stop : {size : ℕ} {cur : State} {left : List ℕ} {c : ℕ} {t : AnyTotal} {z : Stop} {u : List ℕ} (y : Stop) → RestOf size cur left c t z u → in_buffer size (rule cur) left ≡ stops y → u ≡ total_line t ++ end_line y c
 unfolding lines_of
 rest_stop {c = c} {t = t} {z = z} y r e =
     let p = reads_stop y r.reads e in
@@ -71,7 +70,7 @@ rest_stop {c = c} {t = t} {z = z} y r e =
 -- ---- records read from what is at hand
 
 -- a log through the buffer where the records at hand are read: their lines, and what is owed behind them
-pub record Through (size : ℕ) (G : List ℕ) (bs : List ℕ) (c : ℕ) (t : Total) (z : Stop) (v : List ℕ) (g : Reading State Record) : Type 0 where
+pub record Through (size : ℕ) (G : List ℕ) (bs : List ℕ) (c : ℕ) (t : AnyTotal) (z : Stop) (v : List ℕ) (g : Reading State Record) : Type 0 where
   pub rest : List ℕ
   pub lines : v ≡ lines_of g.records ++ rest
   pub owed : RestOf size g.state (drop g.consumed bs ++ G) (c + length g.records) (total_from t (unscaled g.records)) z rest
@@ -79,7 +78,7 @@ pub record Through (size : ℕ) (G : List ℕ) (bs : List ℕ) (c : ℕ) (t : To
 smaller : (last : Bool) (size : ℕ) (bs G : List ℕ) (n : ℕ) → Behind last size bs G → Behind last size (drop n bs) G
 smaller last size bs G n b = record { held = omega (arith, b.held, length-drop n bs); told = λ e. ((b.told e).0, omega (arith, (b.told e).1, length-drop n bs)) }
 
-through : (most room size : ℕ) (last : Bool) (G : List ℕ) (st : State) (bs : List ℕ) (c : ℕ) (t : Total) (z : Stop) (v : List ℕ) → Behind last size bs G → RestOf size st (bs ++ G) c t z v →
+through : (most room size : ℕ) (last : Bool) (G : List ℕ) (st : State) (bs : List ℕ) (c : ℕ) (t : AnyTotal) (z : Stop) (v : List ℕ) → Behind last size bs G → RestOf size st (bs ++ G) c t z v →
     Through size G bs c t z v (read_into most room last st bs)
 unfolding read_into lines_of
 through zero room size last G st bs c t z v b r = record { rest = v; lines = refl; owed = subst (λ n. RestOf size st (bs ++ G) n t z v) (sym (add-zero c)) r }
@@ -112,9 +111,9 @@ pub record Kept (size : ℕ) (p : Place) (buf out input : List ℕ) : Type 0 whe
   pub few : p.count + (p.to - p.from) ≤ p.came
 
 -- behind what stands in the output buffer
-abbrev pub Owed : ℕ → Phase → ℕ → Total → List ℕ → List ℕ → List ℕ → Type 0
-Owed size (Digit mode) count t hand input v = (count ≡ 0) × (t ≡ Absent) × LogOfInput mode size input v
-Owed size (HeaderOf mode kind) count t hand input v = (count ≡ 0) × (t ≡ Absent) × (z : Stop) × LogOf mode size kind (hand ++ input) z v
+abbrev pub Owed : ℕ → Phase → ℕ → AnyTotal → List ℕ → List ℕ → List ℕ → Type 0
+Owed size (Digit mode) count t hand input v = (count ≡ 0) × (t ≡ None) × LogOfInput mode size input v
+Owed size (HeaderOf mode kind) count t hand input v = (count ≡ 0) × (t ≡ None) × (z : Stop) × LogOf mode size kind (hand ++ input) z v
 Owed size (Records st) count t hand input v = (z : Stop) × RestOf size st (hand ++ input) count t z v
 Owed size (Ended all due) count t hand input v = v ≡ []
 Owed size TooLong count t hand input v = ⊥
@@ -285,7 +284,7 @@ module _ (size : ℕ) (input u : List ℕ) where
       }
 
   -- the same place but for the total
-  kept_total : {q : Place} {buf out : List ℕ} (t : Total) → Kept size q buf out input → Kept size (totalled q t) buf out input
+  kept_total : {q : Place} {buf out : List ℕ} (t : AnyTotal) → Kept size q buf out input → Kept size (totalled q t) buf out input
   kept_total t k = let i = k.inside in record { whole = k.whole; inside = record { low = i.low; filled = i.filled; room = i.room; some = i.some; line = i.line }; held = k.held; came = k.came; few = k.few }
 
   -- by the answer, at a place where the records at hand are logged
@@ -350,10 +349,10 @@ module _ (size : ℕ) (input u : List ℕ) where
 
 module _ (size : ℕ) (input u : List ℕ) where
   -- before the first record e stands alone
-  unsummed : (z : Stop) {t : Total} {n : ℕ} → t ≡ Absent → n ≡ 0 → end_line z 0 ≡ total_line t ++ end_line z n
+  unsummed : (z : Stop) {t : AnyTotal} {n : ℕ} → t ≡ None → n ≡ 0 → end_line z 0 ≡ total_line t ++ end_line z n
   unsummed z a c = ap₂ (λ t n. total_line t ++ end_line z n) (sym a) (sym c)
 
-  header_on : (mode : Mode) (kind : ℕ) (p : Place) (buf out rest : List ℕ) (z : Stop) → Owes size p buf out input u → p.phase ≡ HeaderOf mode kind → p.count ≡ 0 → p.total ≡ Absent → u ≡ take p.at out ++ rest → LogOf mode size kind (at_hand buf p ++ input) z rest →
+  header_on : (mode : Mode) (kind : ℕ) (p : Place) (buf out rest : List ℕ) (z : Stop) → Owes size p buf out input u → p.phase ≡ HeaderOf mode kind → p.count ≡ 0 → p.total ≡ None → u ≡ take p.at out ++ rest → LogOf mode size kind (at_hand buf p ++ input) z rest →
       (x : Read Header) → read p.last (open_by mode kind) (at_hand buf p) ≡ x → Continues size (opens mode kind p buf out x).answer (opens mode kind p buf out x).buf (opens mode kind p buf out x).out input u
   header_on mode kind p buf out rest z o ph c a e l (got h n) r =
       let k = o.kept in

@@ -1,20 +1,19 @@
 -- A state as numbers, and the numbers as a state.
-use mathlib.Core.Path.{◌≡◌, refl, sym, ap, ◌∙◌, subst}
+use mathlib.Core.Path.{◌≡◌, refl, sym, subst}
 use mathlib.Core.Bool.{Bool, true, false, cond}
 use mathlib.Core.List.{List}
 use Prim.Native.Nat.{ℕ}
 use lib.Ieee.{Float}
 use lib.Dec.{eqb}
 use lib.ListN.{get_or}
-use borrow.Author.Tests.{eq-eqb, ne_eqb, eqb-true}
+use borrow.Author.Tests.{eqb-true}
 use Rattle.streams.specs.Next.{atlas_of}
 use Rattle.streams.specs.declared.State.{State}
 use Rattle.streams.specs.declared.ChemstationArrayRecordType.{ChemstationArrayRecordType}
 use Rattle.streams.specs.declared.ChemstationArrayRecordType.TheVariants.{Float32Array, Float64Array}
 use Rattle.streams.specs.declared.State.TheVariants.{Fid, Ms, Mwd, Dad, Uv, Array, AtlasDad, AtlasUv}
-use Rattle.states.specs.declared.Kept.{Kept}
-use Rattle.states.specs.declared.Kept.TheVariants as kept
-use Rattle.states.specs.State.{type_number, reading_of, type_at, kept_as, state_of, atlas_state, atlas_kept, state_by, KeepsStates}
+use Rattle.std.specs.Prelude.{Option, Some, None}
+use Rattle.states.specs.State.{type_number, reading_of, type_at, state_of, atlas_kept, state_by, KeepsStates}
 
 same_type : (t : ChemstationArrayRecordType) → type_at (type_number t) ≡ t
 same_type Float32Array = refl
@@ -31,31 +30,13 @@ keeps_states (Array a) = rw (same_type a.record_type)
 keeps_states (AtlasDad d) = refl
 keeps_states (AtlasUv u) = refl
 
--- a kind that is not 1 to 6
-pub no_kind : (k : ℕ) (x : List Float) (n : List ℕ) (stored : ℕ) → ¬ (k ≡ 1) → ¬ (k ≡ 2) → ¬ (k ≡ 3) → ¬ (k ≡ 4) → ¬ (k ≡ 5) → ¬ (k ≡ 6) → kept.NoKind ≡ kept_as k x n stored
-no_kind k x n stored a b c d e f = rw (ne_eqb k 1 a, ne_eqb k 2 b, ne_eqb k 3 c, ne_eqb k 4 d, ne_eqb k 5 e, ne_eqb k 6 f)
-
--- ---- the atlas reading at the place of a plain state
-
-module _ (st a : State) {n : ℕ} (e : a ≡ atlas_of st) (r : n ≡ reading_of a) where
-  pub has_atlas_lem : n ≡ 1 → kept.State a ≡ atlas_state st
-  has_atlas_lem q = rw (eq-eqb (reading_of (atlas_of st)) 1 (ap reading_of (sym e) ∙ sym r ∙ q)) (ap kept.State e)
-
-  pub no_atlas : ¬ (n ≡ 1) → kept.NoKind ≡ atlas_state st
-  no_atlas q = rw (ne_eqb (reading_of (atlas_of st)) 1 (λ h. q (r ∙ ap reading_of e ∙ h)))
-
--- a reading that is not 0 or 1
-pub no_reading : (k : ℕ) (x : List Float) (n : List ℕ) (stored : ℕ) → ¬ (k ≡ 0) → ¬ (k ≡ 1) → kept.NoKind ≡ state_by k x n stored
-unfolding state_by
-no_reading k x n stored a b = rw (ne_eqb k 0 a, ne_eqb k 1 b)
-
 -- ---- what is taken back under a reading is of that reading
 
-abbrev Of : ℕ → Kept → Type 0
-Of reading (kept.State st) = reading_of st ≡ reading
-Of reading kept.NoKind = Unit
+abbrev Of : ℕ → Option State → Type 0
+Of reading (Some st) = reading_of st ≡ reading
+Of reading None = Unit
 
-of_cond : (reading : ℕ) (b : Bool) (k l : Kept) → (b ≡ true → Of reading k) → (b ≡ false → Of reading l) → Of reading (cond b k l)
+of_cond : (reading : ℕ) (b : Bool) (k l : Option State) → (b ≡ true → Of reading k) → (b ≡ false → Of reading l) → Of reading (cond b k l)
 of_cond reading true k l p q = p refl
 of_cond reading false k l p q = q refl
 
@@ -70,9 +51,9 @@ of_plain x n stored =
     (λ e. of_cond 0 (eqb kind 5) _ _ (λ e. refl)
     (λ e. of_cond 0 (eqb kind 6) _ _ (λ e. refl) (λ e. tt))))))
 
-of_atlas : (k : Kept) → Of 1 (atlas_kept k)
-of_atlas (kept.State st) = of_cond 1 (eqb (reading_of (atlas_of st)) 1) _ _ (eqb-true (reading_of (atlas_of st)) 1) (λ e. tt)
-of_atlas kept.NoKind = tt
+of_atlas : (k : Option State) → Of 1 (atlas_kept k)
+of_atlas (Some st) = of_cond 1 (eqb (reading_of (atlas_of st)) 1) _ _ (eqb-true (reading_of (atlas_of st)) 1) (λ e. tt)
+of_atlas None = tt
 
 of_reading : (reading : ℕ) (x : List Float) (n : List ℕ) (stored : ℕ) → Of reading (state_by reading x n stored)
 unfolding state_by
@@ -80,5 +61,5 @@ of_reading reading x n stored =
     of_cond reading (eqb reading 0) _ _ (λ e. subst (λ k. Of k (state_of x n stored)) (sym (eqb-true reading 0 e)) (of_plain x n stored))
     (λ e. of_cond reading (eqb reading 1) _ _ (λ e. subst (λ k. Of k (atlas_kept (state_of x n stored))) (sym (eqb-true reading 1 e)) (of_atlas (state_of x n stored))) (λ e. tt))
 
-pub kept_reading : (reading : ℕ) (x : List Float) (n : List ℕ) (stored : ℕ) {st : State} → state_by reading x n stored ≡ kept.State st → reading_of st ≡ reading
+pub kept_reading : (reading : ℕ) (x : List Float) (n : List ℕ) (stored : ℕ) {st : State} → state_by reading x n stored ≡ Some st → reading_of st ≡ reading
 kept_reading reading x n stored e = subst (Of reading) e (of_reading reading x n stored)

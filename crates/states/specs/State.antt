@@ -1,5 +1,5 @@
 -- A state as numbers that the caller keeps: six doubles, four counts, a stored time and the reading.
-use Rattle.std.specs.Prelude.{◌≡◌, cond, List, [], ◌∷◌, ℕ, eqb, get_or, Float}
+use Rattle.std.specs.Prelude.{◌≡◌, cond, List, [], ◌∷◌, ℕ, eqb, get_or, Float, Option, Some, None}
 use Rattle.std.specs.Float.{binary64, nan}
 use Rattle.std.specs.Float.Ieee.{of_bits}
 use Rattle.streams.specs.Next.{stored_of, atlas_of}
@@ -9,8 +9,6 @@ use Rattle.streams.specs.declared.ChemstationArrayRecordType.{ChemstationArrayRe
 use Rattle.streams.specs.declared.ChemstationArrayRecordType.TheVariants.{Float32Array, Float64Array}
 use Rattle.streams.specs.declared.State.{State}
 use Rattle.streams.specs.declared.State.TheVariants.{Fid, Ms, Mwd, Dad, Uv, Array, AtlasDad, AtlasUv}
-use Rattle.states.specs.declared.Kept.{Kept}
-use Rattle.states.specs.declared.Kept.TheVariants as kept
 
 -- what a place holds that the kind has no number for
 abbrev unused : Float
@@ -140,32 +138,32 @@ array_from x n = Array (record {
   mult_correction = number_at x 4;
 })
 
-abbrev pub kept_as : ℕ → List Float → List ℕ → ℕ → Kept
+abbrev pub kept_as : ℕ → List Float → List ℕ → ℕ → Option State
 kept_as kind x n stored =
-    cond (eqb kind 1) (kept.State (fid_from x))
-    (cond (eqb kind 2) (kept.State (ms_from x n stored))
-    (cond (eqb kind 3) (kept.State (mwd_from x n))
-    (cond (eqb kind 4) (kept.State (dad_from x n stored))
-    (cond (eqb kind 5) (kept.State (uv_from x n stored))
-    (cond (eqb kind 6) (kept.State (array_from x n))
-    kept.NoKind)))))
+    cond (eqb kind 1) (Some (fid_from x))
+    (cond (eqb kind 2) (Some (ms_from x n stored))
+    (cond (eqb kind 3) (Some (mwd_from x n))
+    (cond (eqb kind 4) (Some (dad_from x n stored))
+    (cond (eqb kind 5) (Some (uv_from x n stored))
+    (cond (eqb kind 6) (Some (array_from x n))
+    None)))))
 
 -- the state that the numbers hold under the plain reading: none of a kind that is not 1 to 6
-unfoldable pub state_of : List Float → List ℕ → ℕ → Kept
+unfoldable pub state_of : List Float → List ℕ → ℕ → Option State
 state_of x n stored = kept_as (count_at n 0) x n stored
 
 -- the atlas reading at the place of a plain state: a kind without that reading has no such state
-abbrev pub atlas_state : State → Kept
-atlas_state st = cond (eqb (reading_of (atlas_of st)) 1) (kept.State (atlas_of st)) kept.NoKind
+abbrev pub atlas_state : State → Option State
+atlas_state st = cond (eqb (reading_of (atlas_of st)) 1) (Some (atlas_of st)) None
 
-abbrev pub atlas_kept : Kept → Kept
-atlas_kept (kept.State st) = atlas_state st
-atlas_kept kept.NoKind = kept.NoKind
+abbrev pub atlas_kept : Option State → Option State
+atlas_kept (Some st) = atlas_state st
+atlas_kept None = None
 
 -- the state that the numbers hold under a reading: none of a reading that is not 0 or 1
-unfoldable pub state_by : ℕ → List Float → List ℕ → ℕ → Kept
-state_by reading x n stored = cond (eqb reading 0) (state_of x n stored) (cond (eqb reading 1) (atlas_kept (state_of x n stored)) kept.NoKind)
+unfoldable pub state_by : ℕ → List Float → List ℕ → ℕ → Option State
+state_by reading x n stored = cond (eqb reading 0) (state_of x n stored) (cond (eqb reading 1) (atlas_kept (state_of x n stored)) None)
 
 -- a state that is stored and taken back is the same
 abbrev pub KeepsStates : Type 0
-KeepsStates = (st : State) → state_by (reading_of st) (numbers_of st) (counts_of st) (stored_of st) ≡ kept.State st
+KeepsStates = (st : State) → state_by (reading_of st) (numbers_of st) (counts_of st) (stored_of st) ≡ Some st

@@ -16,7 +16,8 @@ use Rattle.streams.specs.Next.{stepped}
 use Rattle.streams.specs.declared.State.{State}
 use Rattle.streams.specs.declared.Record.{Record}
 use Rattle.streams.specs.declared.Delta.{Delta}
-use Rattle.streams.specs.declared.DeltaAt.{DeltaAt}
+use Rattle.error.specs.declared.Stopped.{Stopped}
+use Rattle.std.specs.Prelude.{Result}
 
 module _ (order : List ℕ → ℕ) (last : Bool) (at : ℕ) (s : List ℕ) where
   -- what is answered, by the value before the point and what a delta tells
@@ -31,7 +32,7 @@ module _ (order : List ℕ → ℕ) (last : Bool) (at : ℕ) (s : List ℕ) wher
       go (stops z) = refl
 
   -- x is what was read of the delta, and y what a match on it says
-  pub point_of_lem : (v : Sum Float) (f : Delta → Told) {x y : DeltaAt} → delta_read x ≡ read_at last (delta order) at s → x ≡ y → map_read (λ d. stepped v (f d)) (delta_read y) ≡ point_at v f
+  pub point_of_lem : (v : Sum Float) (f : Delta → Told) {x y : Result (Delta × ℕ) Stopped} → delta_read x ≡ read_at last (delta order) at s → x ≡ y → map_read (λ d. stepped v (f d)) (delta_read y) ≡ point_at v f
   point_of_lem v f e m = ap (map_read (λ d. stepped v (f d))) (ap delta_read (sym m) ∙ e) ∙ sym (by_delta v f)
 
   -- where the value is cleared first it might as well be 0 before

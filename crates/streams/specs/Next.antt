@@ -1,5 +1,5 @@
 -- What Next record answers, by a state and the rule of its fields.
-use Rattle.std.specs.Prelude.{ℕ, Float}
+use Rattle.std.specs.Prelude.{ℕ, Float, Result, Ok, Err}
 use Rattle.rules.specs.Rule.{Rule, map_rule, Read, got, stops}
 use Rattle.rules.specs.Calls.{Item}
 use Rattle.error.specs.Number.{stop_of}
@@ -10,8 +10,8 @@ use Rattle.streams.specs.declared.State.{State}
 use Rattle.streams.specs.declared.State.TheVariants.{Fid, Ms, Mwd, Dad, Uv, Array, AtlasDad, AtlasUv}
 use Rattle.streams.specs.declared.Record.{Record}
 use Rattle.streams.specs.declared.Record.TheVariants.{Trace, Mass, Spectrum}
-use Rattle.streams.specs.declared.Next.{Next}
-use Rattle.streams.specs.declared.Next.TheVariants.{Given, Stopped}
+use Rattle.error.specs.declared.Stopped.{Stopped}
+use Rattle.streams.specs.declared.Given.{Given}
 
 -- the value that runs on, and its slope: only FID has one
 abbrev pub sum_of : State → Sum Float
@@ -64,6 +64,6 @@ atlas_of (AtlasDad st) = AtlasDad st
 atlas_of (AtlasUv st) = AtlasUv st
 
 -- what an answer says
-abbrev pub answer_of : Next → Read (Item State Record)
-answer_of (Given r st n) = got (record { shows = r; after = st }) n
-answer_of (Stopped z) = stops (stop_of z)
+abbrev pub answer_of : Result Given Stopped → Read (Item State Record)
+answer_of (Ok g) = got (record { shows = g.«record»; after = g.state }) g.bytes
+answer_of (Err z) = stops (stop_of z)

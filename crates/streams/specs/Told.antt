@@ -1,17 +1,16 @@
 -- Document 01, 'Record streams' (FORMAT 5): what the fields of a record tell, and what several kinds share of it.
-use Rattle.std.specs.Prelude.{Bool, false, cond, List, ℕ, ◌/◌, ◌%◌, eqb, ℤ, pos, negsuc, Float}
+use Rattle.std.specs.Prelude.{Bool, false, cond, List, ℕ, ◌/◌, ◌%◌, eqb, ℤ, pos, negsuc, Float, Result, Ok, Err}
 use Rattle.std.specs.Float.{binary64}
 use Rattle.std.specs.Float.Ieee.{add, mul, div}
 use Rattle.rules.specs.Rule.{Rule, gives, ◌>>=◌, map_rule, Read, got, stops}
 use Rattle.error.specs.Number.{stop_of}
+use Rattle.error.specs.declared.Stopped.{Stopped}
 use Rattle.common.specs.Fields.{i16, i32}
 use Rattle.floats.specs.Doubles.{double}
 use Rattle.floats.specs.Wholes.{Sum}
 use Rattle.streams.specs.Changes.{Change, adds, becomes}
 use Rattle.streams.specs.declared.Delta.{Delta}
 use Rattle.streams.specs.declared.Delta.TheVariants.{By, Absolute}
-use Rattle.streams.specs.declared.DeltaAt.{DeltaAt}
-use Rattle.streams.specs.declared.DeltaAt.TheVariants as delta_at
 use Rattle.streams.specs.declared.State.{State}
 use Rattle.streams.specs.declared.Record.{Record}
 
@@ -68,6 +67,6 @@ change_of (By v) = adds v
 change_of (Absolute z) = becomes z
 
 -- what an answer says
-abbrev pub delta_read : DeltaAt → Read Delta
-delta_read (delta_at.Read d n) = got d n
-delta_read (delta_at.Stopped z) = stops (stop_of z)
+abbrev pub delta_read : Result (Delta × ℕ) Stopped → Read Delta
+delta_read (Ok (d, n)) = got d n
+delta_read (Err z) = stops (stop_of z)

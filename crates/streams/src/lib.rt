@@ -9,9 +9,8 @@ ghost use Rattle.streams.specs.Changes.{changed};
 ghost use Rattle.streams.specs.Next.{atlas_of, unscaled_of};
 ghost use Rattle.streams.specs.Told.{corrected, delta, change_of, delta_read};
 
-use common::{Endian, i16_in, i32_in};
+use common::{Endian, Number};
 use error::Stopped;
-use floats::{f64_from_i16, f64_from_i32};
 
 // Counts still due, never one for another.
 #[derive(Clone, Copy)]
@@ -159,51 +158,48 @@ pub enum Mode {
     Atlas,
 }
 
-// The state of the atlas reading at the place of a plain one; a kind without such a reading keeps its own.
-pub fn atlas_of(st: State) -> State
-    ensures { result ≡ atlas_of st }
-{
-    match st {
-        State::Dad(d) => State::AtlasDad(d),
-        State::Uv(u) => State::AtlasUv(u),
-        State::Fid(_) => st,
-        State::Ms(_) => st,
-        State::Mwd(_) => st,
-        State::Array(_) => st,
-        State::AtlasDad(_) => st,
-        State::AtlasUv(_) => st,
+impl State {
+    // The state of the atlas reading at the place of a plain one; a kind without such a reading keeps its own.
+    pub fn in_atlas(self) -> State
+        ensures { result ≡ atlas_of self }
+    {
+        match self {
+            State::Dad(d) => State::AtlasDad(d),
+            State::Uv(u) => State::AtlasUv(u),
+            _ => self,
+        }
     }
 }
 
-// What Next record answers.
+// What Next record gives: a record, the state after it and the count of bytes that it took.
 #[derive(Clone, Copy)]
-pub enum Next {
-    // a record, the state after it and the count of bytes that it took
-    Given(Record, State, usize),
-    Stopped(Stopped),
+pub struct Given {
+    pub record: Record,
+    pub state: State,
+    pub bytes: usize,
 }
 
-// A record's unscaled intensity.
-pub fn unscaled_of(r: Record) -> f64
-    ensures { result ≡ unscaled_of r }
-{
-    match r {
-        Record::Trace { unscaled, .. } => unscaled,
-        Record::Mass { unscaled, .. } => unscaled,
-        Record::Spectrum { unscaled, .. } => unscaled,
+impl Record {
+    // FID and MWD, the record of a value: it is multiplied by the correction, then the offset added.
+    pub fn trace(time: f64, value: f64, mult: f64, offset: f64) -> Record
+        ensures { result ≡ Record.Trace time value (corrected mult offset value) }
+    {
+        Record::Trace {
+            time,
+            unscaled: value,
+            scaled: value * mult + offset,
+        }
     }
-}
 
-// ---- FID and MWD: a trace point
-
-// The record of a value: it is multiplied by the correction, then the offset added.
-pub fn trace_point(time: f64, value: f64, mult: f64, offset: f64) -> Record
-    ensures { result ≡ Record.Trace time value (corrected mult offset value) }
-{
-    Record::Trace {
-        time,
-        unscaled: value,
-        scaled: value * mult + offset,
+    // Its unscaled intensity.
+    pub fn unscaled(self) -> f64
+        ensures { result ≡ unscaled_of self }
+    {
+        match self {
+            Record::Trace { unscaled, .. }
+            | Record::Mass { unscaled, .. }
+            | Record::Spectrum { unscaled, .. } => unscaled,
+        }
     }
 }
 
@@ -216,37 +212,34 @@ pub enum Delta {
     Absolute(i32),
 }
 
-// A delta at a position and the position after it, or why there is none.
-#[derive(Clone, Copy)]
-pub enum DeltaAt {
-    Read(Delta, usize),
-    Stopped(Stopped),
+impl Delta {
+    // The value after it.
+    pub fn applied_to(self, value: f64) -> f64
+        ensures { result ≡ (changed doubles (flat doubles value) (change_of self)).value }
+    {
+        match self {
+            Delta::By(v) => value + f64::from(v),
+            Delta::Absolute(z) => f64::from(z),
+        }
+    }
 }
 
-// Reads the delta at a position.
-pub fn delta_at(order: Endian, s: &[u8], at: usize, last: bool) -> DeltaAt
+// The delta at a position and the position after it, or why there is none.
+// Kept: bytes, position and whether they are the last as three (d): each kind would begin with `Input { bytes: s, at: 0, last }`, and a
+// clause would read i.bytes.now, i.at and i.last where it now reads s.now, at and last, the three that `read_at` takes.
+pub fn delta_at(order: Endian, s: &[u8], at: usize, last: bool) -> Result<(Delta, usize), Stopped>
     requires { at ≤ length s.now }
     ensures { delta_read result ≡ read_at last (delta (order_of order)) at s.now }
 {
     if s.len() - at < 2 {
-        return DeltaAt::Stopped(error::cut(last));
+        return Err(error::lacking(last, false));
     }
-    let v = i16_in(order, s, at);
+    let v = i16::in_order(order, s, at);
     if v != -32768 {
-        return DeltaAt::Read(Delta::By(v), at + 2);
+        return Ok((Delta::By(v), at + 2));
     }
     if s.len() - at < 6 {
-        return DeltaAt::Stopped(error::cut(last));
+        return Err(error::lacking(last, false));
     }
-    DeltaAt::Read(Delta::Absolute(i32_in(order, s, at + 2)), at + 6)
-}
-
-// The value after a delta.
-pub fn changed_by(value: f64, d: Delta) -> f64
-    ensures { result ≡ (changed doubles (flat doubles value) (change_of d)).value }
-{
-    match d {
-        Delta::By(v) => value + f64_from_i16(v),
-        Delta::Absolute(z) => f64_from_i32(z),
-    }
+    Ok((Delta::Absolute(i32::in_order(order, s, at + 2)), at + 6))
 }

@@ -1,12 +1,11 @@
 -- What values add up to: request 1, 'the signed 64-bit sum of the unscaled values', and where there is none.
-use Rattle.std.specs.Prelude.{◌≡◌, ℕ, ◌*◌, ◌/◌, ◌%◌, ◌^◌, ◌<◌, Bool, true, false, cond, not, ◌&&◌, T, ◌⊎◌, List, [], ◌∷◌, ◌++◌, ℤ, pos, negsuc, ◌+ℤ◌, ◌==◌, nat_lt, unsigned_abs, Float}
+use Rattle.std.specs.Prelude.{◌≡◌, ◌*◌, ◌/◌, ◌%◌, ◌^◌, ◌<◌, Bool, true, false, cond, not, ◌&&◌, T, ◌⊎◌, Option, Some, None, Result, Ok, Err, List, [], ◌∷◌, ◌++◌, ℤ, pos, negsuc, ◌+ℤ◌, ◌==◌, nat_lt, unsigned_abs, Float}
 use mathlib.Core.List.{foldl}
 use Rattle.std.specs.Float.{nan, inf, fin, binary64}
 use Rattle.std.specs.Float.Ieee.{up, down, eq, of_int, to_signed}
+use Rattle.error.specs.declared.Refusal.{Refusal}
 use Rattle.error.specs.declared.Refusal.TheVariants.{SumOutOfRange}
 use Rattle.floats.specs.Wholes.{IsWhole}
-use Rattle.sums.specs.declared.Total.{Total}
-use Rattle.sums.specs.declared.Total.TheVariants.{Absent, Amount, Refused}
 
 -- ---- a value
 
@@ -27,20 +26,24 @@ abbrev pub in64 : ℤ → Bool
 in64 (pos n) = nat_lt n (2 ^ 63)
 in64 (negsuc n) = nat_lt n (2 ^ 63)
 
+-- none where nothing is added up, and a refusal where there is no sum
+abbrev pub AnyTotal : Type 0
+AnyTotal = Option (Result ℤ Refusal)
+
 -- 'Answers: 17'
-abbrev pub out_of_range : Total
-out_of_range = Refused SumOutOfRange
+abbrev pub out_of_range : AnyTotal
+out_of_range = Some (Err SumOutOfRange)
 
 -- 'or the sum after some record leaves 64 bits'
-abbrev pub amount : ℤ → Total
-amount z = cond (in64 z) (Amount z) out_of_range
+abbrev pub amount : ℤ → AnyTotal
+amount z = cond (in64 z) (Some (Ok z)) out_of_range
 
-abbrev pub plus : Total → Float → Total
-plus Absent v = Absent
-plus (Amount a) v = cond (counts v) (amount (a +ℤ whole_of v)) out_of_range
-plus (Refused c) v = Refused c
+abbrev pub plus : AnyTotal → Float → AnyTotal
+plus None v = None
+plus (Some (Ok a)) v = cond (counts v) (amount (a +ℤ whole_of v)) out_of_range
+plus (Some (Err c)) v = Some (Err c)
 
-abbrev pub total_from : Total → List Float → Total
+abbrev pub total_from : AnyTotal → List Float → AnyTotal
 total_from t vs = foldl plus t vs
 
 -- ---- what is so of every column
@@ -63,15 +66,15 @@ pub record SomeOut (a : ℤ) (vs : List Float) : Type 0 where
 
 pub record TotalsAreSums : Type 0 where
   -- an amount is the sum in whole numbers, and is given exactly where each value counts and each sum on the way fits
-  pub amounts : (a z : ℤ) (vs : List Float) → total_from (Amount a) vs ≡ Amount z → AllIn a vs × (z ≡ sum_from a vs)
-  pub sums : (a : ℤ) (vs : List Float) → AllIn a vs → total_from (Amount a) vs ≡ Amount (sum_from a vs)
+  pub amounts : (a z : ℤ) (vs : List Float) → total_from (Some (Ok a)) vs ≡ Some (Ok z) → AllIn a vs × (z ≡ sum_from a vs)
+  pub sums : (a : ℤ) (vs : List Float) → AllIn a vs → total_from (Some (Ok a)) vs ≡ Some (Ok (sum_from a vs))
   -- 17 exactly where some value does not count or some sum on the way does not fit
-  pub refused : (a : ℤ) (vs : List Float) → total_from (Amount a) vs ≡ out_of_range → SomeOut a vs
-  pub out : (a : ℤ) (vs : List Float) → SomeOut a vs → total_from (Amount a) vs ≡ out_of_range
+  pub refused : (a : ℤ) (vs : List Float) → total_from (Some (Ok a)) vs ≡ out_of_range → SomeOut a vs
+  pub out : (a : ℤ) (vs : List Float) → SomeOut a vs → total_from (Some (Ok a)) vs ≡ out_of_range
   -- one of the two always
-  pub either : (a : ℤ) (vs : List Float) → (total_from (Amount a) vs ≡ Amount (sum_from a vs)) ⊎ (total_from (Amount a) vs ≡ out_of_range)
+  pub either : (a : ℤ) (vs : List Float) → (total_from (Some (Ok a)) vs ≡ Some (Ok (sum_from a vs))) ⊎ (total_from (Some (Ok a)) vs ≡ out_of_range)
   -- a column in parts
-  pub parts : (t : Total) (us vs : List Float) → total_from t (us ++ vs) ≡ total_from (total_from t us) vs
+  pub parts : (t : AnyTotal) (us vs : List Float) → total_from t (us ++ vs) ≡ total_from (total_from t us) vs
   -- what counts equals the double of its whole number, which is below 2^53 in size: no fraction does, nothing larger, no infinity and no NaN
   pub counted : (v : Float) → T (counts v) → (unsigned_abs (whole_of v) < 2 ^ 53) × T (eq (of_int binary64 (whole_of v)) v)
   -- a whole number's double counts as that number below 2^53 in size, and not at 2^53; -0 counts as 0

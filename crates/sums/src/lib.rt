@@ -1,55 +1,32 @@
 // Values added up in whole numbers: one value more, and what is so of every column.
 #![tactic(auto)]
 
-ghost use Rattle.std.specs.Prelude.{◌≡◌, ◌+ℤ◌, if◌then◌else◌};
-ghost use Rattle.sums.specs.declared.Counted.TheVariants as counted;
-ghost use Rattle.sums.specs.Sums.{counts, whole_of, amount, plus as plus_of, TotalsAreSums};
+ghost use Rattle.std.specs.Prelude.{◌≡◌, ◌+ℤ◌, ◌&&◌, if◌then◌else◌, Some, None};
+ghost use Rattle.sums.specs.Sums.{counts, whole_of, in64, plus as plus_of, TotalsAreSums};
 
 use error::Refusal;
 
-// What values add up to.
-#[derive(Clone, Copy)]
-pub enum Total {
-    // nothing is added up
-    Absent,
-    Amount(i64),
-    Refused(Refusal),
-}
+// What values add up to: nothing is added up, or a sum, or the sum is refused.
+pub type Total = Option<Result<i64, Refusal>>;
 
-// A value as a whole number below 2^53 in size.
-#[derive(Clone, Copy)]
-enum Counted {
-    As(i64),
-    Not,
-}
-
-// Whether a value is a whole number below 2^53 in size, and which.
-fn whole_of(v: f64) -> Counted
-    ensures { result ≡ (if counts v then counted.As (whole_of v) else counted.Not) }
+// A value as a whole number, if it is one below 2^53 in size.
+fn whole_of(v: f64) -> Option<i64>
+    ensures { result ≡ (if counts v then Some (whole_of v) else None) }
 {
     if v > -9007199254740992.0 && v < 9007199254740992.0 {
         let n = std::num::truncating_f64_to_i64(v);
         if std::num::nearest_i64_to_f64(n) == v {
-            return Counted::As(n);
+            return Some(n);
         }
     }
-    Counted::Not
+    None
 }
 
-// The sum of two whole numbers, if it fits.
-fn sum(a: i64, n: i64) -> Total
-    ensures { result ≡ amount (a +ℤ n) }
+// The sum and one value more, if it counts and the new sum fits.
+fn sum(a: i64, v: f64) -> Option<i64>
+    ensures { result ≡ (if counts v && in64 (a +ℤ whole_of v) then Some (a +ℤ whole_of v) else None) }
 {
-    if n >= 0 {
-        if a > i64::MAX - n {
-            return Total::Refused(Refusal::SumOutOfRange);
-        }
-        return Total::Amount(a + n);
-    }
-    if a < i64::MIN - n {
-        return Total::Refused(Refusal::SumOutOfRange);
-    }
-    Total::Amount(a + n)
+    a.checked_add(whole_of(v)?)
 }
 
 // One value more.
@@ -57,12 +34,8 @@ pub fn plus(t: Total, v: f64) -> Total
     ensures { result ≡ plus_of t v }
 {
     match t {
-        Total::Absent => t,
-        Total::Refused(_) => t,
-        Total::Amount(a) => match whole_of(v) {
-            Counted::As(n) => sum(a, n),
-            Counted::Not => Total::Refused(Refusal::SumOutOfRange),
-        },
+        Some(Ok(a)) => Some(sum(a, v).ok_or(Refusal::SumOutOfRange)),
+        None | Some(Err(_)) => t,
     }
 }
 

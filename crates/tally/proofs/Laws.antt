@@ -4,10 +4,9 @@ use mathlib.Core.List.{List}
 use Prim.Native.Nat.{ℕ, zero, suc, ◌+◌, ◌-◌, ◌*◌, ◌%◌, ◌^◌, ◌≤◌, ◌<◌}
 use native.Mathlib.Nat.{pow-succ', mul-lt-mul_of_pos_right}
 use native.Mathlib.Omega.{arith}
-use mathlib.Core.Bool.{Bool, true, false, cond, ◌&&◌, and-true, false≢true}
-use lib.Dec.{T, ltb, leb, eqb, ltb→lt, lt→ltb, leb→le, le→leb, leb-suc-suc}
+use mathlib.Core.Bool.{Bool, true, false, cond, ◌&&◌, false≢true}
+use lib.Dec.{T, ltb, leb, eqb, ltb→lt, lt→ltb, leb→le, le→leb}
 use lib.ListN.{length, drop, get_or}
-use lib.Signed.{le_z}
 use mir.Syntax.{w64}
 use mir.Val.{SFits}
 use lib.Pow.{pow_pos}
@@ -25,9 +24,8 @@ use Rattle.floats.specs.Doubles.{double}
 use Rattle.floats.specs.Wholes.{IsWhole}
 use Rattle.floats.proofs.Exact.{exactly as exact_on, whole_of_lem, whole_value}
 use Rattle.floats.proofs.Sizes.{nat_abs_add_lem}
-use Rattle.sums.specs.declared.Total.{Total}
-use Rattle.sums.specs.declared.Total.TheVariants.{Absent, Amount, Refused}
-use Rattle.sums.specs.Sums.{counts, whole_of, in64, plus, total_from}
+use Rattle.std.specs.Prelude.{Some, None, Ok, Err}
+use Rattle.sums.specs.Sums.{counts, whole_of, in64, AnyTotal, plus, total_from}
 use Rattle.tally.specs.Tally.{middle, inside, roomy, beside_of, exactly, joined, is_amount, start_of, added_to, total_of}
 use Rattle.tally.specs.declared.Tally.{Tally}
 use Rattle.sums.proofs.Values.{eq_counts}
@@ -36,9 +34,9 @@ use Rattle.sums.proofs.Folds.{one_more, none_left}
 -- ---- the two together
 
 -- `near` and `far` stand for the total t: by far alone, or by far and how far near is from the middle
-pub data Stands : Float → Total → Total → Type 0 where
-  alone : {t : Total} → Stands nan t t
-  beside : {x : Float} {n : ℕ} {a : ℤ} → IsWhole binary64 x (pos n) → 2 ^ 52 ≤ n → n < 2 ^ 53 → T (roomy a) → Stands x (Amount a) (Amount (a +ℤ (pos n -ℤ pos middle)))
+pub data Stands : Float → AnyTotal → AnyTotal → Type 0 where
+  alone : {t : AnyTotal} → Stands nan t t
+  beside : {x : Float} {n : ℕ} {a : ℤ} → IsWhole binary64 x (pos n) → 2 ^ 52 ≤ n → n < 2 ^ 53 → T (roomy a) → Stands x (Some (Ok a)) (Some (Ok (a +ℤ (pos n -ℤ pos middle))))
 
 -- ---- tests
 
@@ -164,7 +162,7 @@ inside_fits x a p h r =
 
 -- ---- a value that is added
 
-plus_is : (a z : ℤ) (v : Float) → counts v ≡ true → whole_of v ≡ z → in64 (a +ℤ z) ≡ true → plus (Amount a) v ≡ Amount (a +ℤ z)
+plus_is : (a z : ℤ) (v : Float) → counts v ≡ true → whole_of v ≡ z → in64 (a +ℤ z) ≡ true → plus (Some (Ok a)) v ≡ Some (Ok (a +ℤ z))
 plus_is a z v c w i = rw (c, w) (rw i refl)
 
 nan_eq : (v : Float) → eq (sub binary64 (add binary64 nan v) nan) v ≡ false
@@ -172,7 +170,7 @@ unfolding add sub eq
 nan_eq v = refl
 
 -- the law of a step: one that is exact adds the value
-exact_step : {near : Float} {far t : Total} (v : Float) → Stands near far t → exactly near v (add binary64 near v) ≡ true → Stands (add binary64 near v) far (plus t v)
+exact_step : {near : Float} {far t : AnyTotal} (v : Float) → Stands near far t → exactly near v (add binary64 near v) ≡ true → Stands (add binary64 near v) far (plus t v)
 exact_step v alone h = absurd (false≢true (sym (nan_eq v) ∙ (both (eq (sub binary64 (add binary64 nan v) nan) v) (inside (add binary64 nan v)) h).0))
 exact_step v (beside {x} {n} {a} w lo hi r) h =
     let next = add binary64 x v in
@@ -182,9 +180,9 @@ exact_step v (beside {x} {n} {a} w lo hi r) h =
     let g : nat_abs d ≤ 2 ^ 52 = gap i.n n (2 ^ 52) (omega arith) (omega arith) in
     let c = eq_counts (sub binary64 next x) v d ((exact_on i.is w).differences (omega arith)) (omega arith) b.0 in
     let e = shift a (pos n) (pos middle) (pos i.n) in
-    let p : plus (Amount (a +ℤ (pos n -ℤ pos middle))) v ≡ Amount (a +ℤ (pos i.n -ℤ pos middle)) =
-    plus_is (a +ℤ (pos n -ℤ pos middle)) d v c.0 c.1 (rw e (sum_in64 a i.n r i.least i.most)) ∙ ap Amount e in
-    subst (Stands next (Amount a)) (sym p) (beside i.is i.least i.most r)
+    let p : plus (Some (Ok (a +ℤ (pos n -ℤ pos middle)))) v ≡ Some (Ok (a +ℤ (pos i.n -ℤ pos middle))) =
+    plus_is (a +ℤ (pos n -ℤ pos middle)) d v c.0 c.1 (rw e (sum_in64 a i.n r i.least i.most)) ∙ ap (λ (z : ℤ). Some (Ok z)) e in
+    subst (Stands next (Some (Ok a))) (sym p) (beside i.is i.least i.most r)
 
 below_two53 : (x : Float) (n : ℕ) → HasValue x false n 1 → n < 2 ^ 53 → lt x (fin false 1 (pos 53)) ≡ true
 unfolding lt
@@ -202,69 +200,69 @@ unfolding le
 outside = rw two52 refl
 
 -- a NaN stands for nothing
-nan_joined : (t : Total) → joined nan t ≡ t
-nan_joined Absent = refl
-nan_joined (Amount a) = rw outside refl
-nan_joined (Refused c) = refl
+nan_joined : (t : AnyTotal) → joined nan t ≡ t
+nan_joined None = refl
+nan_joined (Some (Ok a)) = rw outside refl
+nan_joined (Some (Err c)) = refl
 
 -- joined, the two are the total
-joined_is : {near : Float} {far t : Total} → Stands near far t → joined near far ≡ t
+joined_is : {near : Float} {far t : AnyTotal} → Stands near far t → joined near far ≡ t
 joined_is (alone {t}) = nan_joined t
 joined_is (beside {x} {n} {a} w lo hi r) =
     rw (inside_of x n (whole_value binary64 x (pos n) w) lo hi, is_true (roomy a) r, (cast x n w lo hi).1) refl
 
 -- far starts anew, and near at the middle
-fresh : (a : ℤ) → T (roomy a) → Stands (double middle) (Amount a) (Amount a)
-fresh a r = subst (λ (z : ℤ). Stands (double middle) (Amount a) (Amount z)) (+ℤ_idr a) (beside (whole_of_lem binary64 (pos middle) (omega arith)) (omega arith) (omega arith) r)
+fresh : (a : ℤ) → T (roomy a) → Stands (double middle) (Some (Ok a)) (Some (Ok a))
+fresh a r = subst (λ (z : ℤ). Stands (double middle) (Some (Ok a)) (Some (Ok z))) (+ℤ_idr a) (beside (whole_of_lem binary64 (pos middle) (omega arith)) (omega arith) (omega arith) r)
 
 -- the double to start with stands for nothing, beside any total
-begins : (t : Total) → Stands (beside_of t) t t
-begins Absent = alone
-begins (Refused c) = alone
-begins (Amount a) = by (roomy a) (λ h. rw h (fresh a (subst T (sym h) tt))) (λ h. rw h alone)
+begins : (t : AnyTotal) → Stands (beside_of t) t t
+begins None = alone
+begins (Some (Err c)) = alone
+begins (Some (Ok a)) = by (roomy a) (λ h. rw h (fresh a (subst T (sym h) tt))) (λ h. rw h alone)
 
-still : (t : Total) (v : Float) → is_amount t ≡ false → plus t v ≡ t
-still Absent v h = refl
-still (Amount a) v h = absurd (false≢true (sym h))
-still (Refused c) v h = refl
+still : (t : AnyTotal) (v : Float) → is_amount t ≡ false → plus t v ≡ t
+still None v h = refl
+still (Some (Ok a)) v h = absurd (false≢true (sym h))
+still (Some (Err c)) v h = refl
 
 -- nothing changes a total that is no amount
-not_amount : {near : Float} {far t : Total} (v : Float) → Stands near far t → is_amount far ≡ false → Stands near far (plus t v)
+not_amount : {near : Float} {far t : AnyTotal} (v : Float) → Stands near far t → is_amount far ≡ false → Stands near far (plus t v)
 not_amount v (alone {t}) h = subst (Stands nan t) (sym (still t v h)) alone
 not_amount v (beside w lo hi r) h = absurd (false≢true (sym h))
 
 -- ---- a tally
 
 -- the total that it stands for
-abbrev pub StandsFor : Tally → Total → Type 0
+abbrev pub StandsFor : Tally → AnyTotal → Type 0
 StandsFor s t = Stands s.near s.far t
 
-pub starts : (t : Total) → StandsFor (start_of t) t
+pub starts : (t : AnyTotal) → StandsFor (start_of t) t
 starts t = begins t
 
-pub adds : (s : Tally) (t : Total) (v : Float) → StandsFor s t → StandsFor (added_to s v) (plus t v)
+pub adds : (s : Tally) (t : AnyTotal) (v : Float) → StandsFor s t → StandsFor (added_to s v) (plus t v)
 adds s t v k =
     let sum = plus (joined s.near s.far) v in
     by (exactly s.near v (add binary64 s.near v))
     (λ h. rw h (exact_step v k h))
-    (λ h. rw h (by (is_amount s.far) (λ a. rw a (subst (Stands (beside_of sum) sum) (ap (λ (x : Total). plus x v) (joined_is k)) (begins sum))) (λ a. rw a (not_amount v k a))))
+    (λ h. rw h (by (is_amount s.far) (λ a. rw a (subst (Stands (beside_of sum) sum) (ap (λ (x : AnyTotal). plus x v) (joined_is k)) (begins sum))) (λ a. rw a (not_amount v k a))))
 
-pub totals : (s : Tally) (t : Total) → StandsFor s t → total_of s ≡ t
+pub totals : (s : Tally) (t : AnyTotal) → StandsFor s t → total_of s ≡ t
 totals s t k = joined_is k
 
 -- ---- a column
 
 -- the first i values are added: what is left, on top of the total that the tally stands for, adds up to what all does
-pub record Adding (values : List Float) (all : Total) (s : Tally) (i : ℕ) : Type 0 where
-  pub total : Total
+pub record Adding (values : List Float) (all : AnyTotal) (s : Tally) (i : ℕ) : Type 0 where
+  pub total : AnyTotal
   pub stands : StandsFor s total
   pub inside : i ≤ length values
   pub rest : total_from total (drop i values) ≡ all
 
-pub adding_start : (t : Total) (values : List Float) (s : Tally) → s ≡ start_of t → Adding values (total_from s.far values) s 0
+pub adding_start : (t : AnyTotal) (values : List Float) (s : Tally) → s ≡ start_of t → Adding values (total_from s.far values) s 0
 adding_start t values s e = record { total = s.far; stands = subst (λ (x : Tally). StandsFor x x.far) (sym e) (starts t); inside = omega arith; rest = refl }
 
-pub adding_more : (values : List Float) (all : Total) (s r : Tally) (i : ℕ) (d : Float) → i < length values → r ≡ added_to s (get_or values i d) → Adding values all s i → Adding values all r (i + 1)
+pub adding_more : (values : List Float) (all : AnyTotal) (s r : Tally) (i : ℕ) (d : Float) → i < length values → r ≡ added_to s (get_or values i d) → Adding values all s i → Adding values all r (i + 1)
 adding_more values all s r i d h e a = record {
   total = plus a.total (get_or values i d);
   stands = subst (λ (x : Tally). StandsFor x (plus a.total (get_or values i d))) (sym e) (adds s a.total (get_or values i d) a.stands);
@@ -272,15 +270,11 @@ adding_more values all s r i d h e a = record {
   rest = one_more values a.total (plus a.total (get_or values i d)) i d h refl ∙ a.rest;
 }
 
-pub adding_end : (values : List Float) (t : Total) (s₀ s : Tally) (r : Total) (i : ℕ) → i ≡ length values → r ≡ total_of s → s₀ ≡ start_of t → Adding values (total_from s₀.far values) s i → r ≡ total_from t values
+pub adding_end : (values : List Float) (t : AnyTotal) (s₀ s : Tally) (r : AnyTotal) (i : ℕ) → i ≡ length values → r ≡ total_of s → s₀ ≡ start_of t → Adding values (total_from s₀.far values) s i → r ≡ total_from t values
 adding_end values t s₀ s r i h e f a = e ∙ totals s a.total a.stands ∙ sym (none_left values a.total i h) ∙ a.rest ∙ ap (λ (x : Tally). total_from x.far values) f
 
--- ---- the machine's tests
+-- ---- an amount, where the double and the total are read
 
--- as the machine compares
-pub roomy_is : (a : ℤ) → roomy a ≡ (le_z (negsuc (2 ^ 62 - 1)) a && le_z a (pos (2 ^ 62)))
-roomy_is (pos n) = refl
-roomy_is (negsuc n) = leb-suc-suc n (2 ^ 62 - 1) ∙ sym (and-true (leb n (2 ^ 62 - 1)))
-
-pub roomy_of : (a : ℤ) → le_z (negsuc (2 ^ 62 - 1)) a ≡ true → le_z a (pos (2 ^ 62)) ≡ true → T (roomy a)
-roomy_of a l h = rw (roomy_is a, l, h) tt
+pub joined_amount : (near : Float) (far : AnyTotal) (a : ℤ) → far ≡ Some (Ok a) → inside near ≡ true → roomy a ≡ true
+    → Some (Ok (a +ℤ to_signed 63 (sub binary64 near (double middle)))) ≡ joined near far
+joined_amount near far a e i r = rw (e, i, r) refl

@@ -7,7 +7,7 @@
 
 ghost use Rattle.std.specs.Prelude.{◌≡◌};
 ghost use Rattle.sums.specs.Sums.{total_from};
-ghost use Rattle.tally.specs.Tally.{beside_of, exactly, joined, is_amount, start_of, added_to, total_of};
+ghost use Rattle.tally.specs.Tally.{inside, roomy, beside_of, exactly, joined, start_of, added_to, total_of};
 
 use sums::Total;
 
@@ -18,20 +18,27 @@ pub struct Tally {
     pub far: Total,
 }
 
+// Whether a double is a whole number, and each whole number beside it a double.
+fn is_inside(near: f64) -> bool
+    ensures { result ≡ inside near }
+{
+    near >= 4503599627370496.0 && near < 9007199254740992.0
+}
+
+// Whether no double beside an amount takes it out of 64 bits.
+fn is_roomy(a: i64) -> bool
+    ensures { result ≡ roomy a }
+{
+    a.unsigned_abs() <= 4611686018427387904
+}
+
 // The double to start with: at the middle where the total has room, and a NaN, to which nothing is added, where it has none.
 fn beside(far: Total) -> f64
     ensures { result ≡ beside_of far }
 {
     match far {
-        Total::Absent => 0.0 / 0.0,
-        Total::Refused(_) => 0.0 / 0.0,
-        Total::Amount(a) => {
-            if a >= -4611686018427387904 && a <= 4611686018427387904 {
-                6755399441055744.0
-            } else {
-                0.0 / 0.0
-            }
-        }
+        Some(Ok(a)) if is_roomy(a) => 6755399441055744.0,
+        _ => f64::NAN,
     }
 }
 
@@ -39,82 +46,54 @@ fn beside(far: Total) -> f64
 fn exact(near: f64, v: f64, next: f64) -> bool
     ensures { result ≡ exactly near v next }
 {
-    next - near == v && (next >= 4503599627370496.0 && next < 9007199254740992.0)
+    next - near == v && is_inside(next)
 }
 
-// The total that the two stand for.
-fn join(near: f64, far: Total) -> Total
-    ensures { result ≡ joined near far }
-{
-    match far {
-        Total::Amount(a) => {
-            if near >= 4503599627370496.0
-                && near < 9007199254740992.0
-                && a >= -4611686018427387904
-                && a <= 4611686018427387904
-            {
-                Total::Amount(a + (near - 6755399441055744.0) as i64)
-            } else {
-                far
-            }
+impl Tally {
+    // A total, and nothing beside it.
+    pub fn start(total: Total) -> Tally
+        ensures { result ≡ start_of total }
+    {
+        Tally {
+            near: beside(total),
+            far: total,
         }
-        Total::Absent => far,
-        Total::Refused(_) => far,
     }
-}
 
-// Whether it is an amount.
-fn is_amount(far: Total) -> bool
-    ensures { result ≡ is_amount far }
-{
-    match far {
-        Total::Absent => false,
-        Total::Refused(_) => false,
-        Total::Amount(_) => true,
+    // One value more.
+    pub fn add(self, v: f64) -> Tally
+        ensures { result ≡ added_to self v }
+    {
+        let next = self.near + v;
+        if exact(self.near, v, next) {
+            return Tally { near: next, ..self };
+        }
+        match self.far {
+            Some(Ok(_)) => Tally::start(sums::plus(self.total(), v)),
+            None | Some(Err(_)) => self,
+        }
     }
-}
 
-// A total, and nothing beside it.
-pub fn start(total: Total) -> Tally
-    ensures { result ≡ start_of total }
-{
-    let near = beside(total);
-    Tally { near, far: total }
-}
-
-// One value more.
-pub fn add(t: Tally, v: f64) -> Tally
-    ensures { result ≡ added_to t v }
-{
-    let near = t.near;
-    let far = t.far;
-    let next = near + v;
-    if exact(near, v, next) {
-        return Tally { near: next, far };
+    // The total that the two stand for.
+    pub fn total(self) -> Total
+        ensures { result ≡ total_of self }
+    {
+        match self.far {
+            Some(Ok(a)) if is_inside(self.near) && is_roomy(a) => {
+                Some(Ok(a + (self.near - 6755399441055744.0) as i64))
+            }
+            far => far,
+        }
     }
-    if is_amount(far) {
-        return start(sums::plus(join(near, far), v));
-    }
-    t
-}
-
-// The total of both.
-pub fn total_of(t: Tally) -> Total
-    ensures { result ≡ total_of t }
-{
-    let far = t.far;
-    join(t.near, far)
 }
 
 // The values of a column, one behind the other, on top of a total.
 pub fn total_from(t: Total, values: &[f64]) -> Total
     ensures { result ≡ total_from t values.now }
 {
-    let mut sum = start(t);
-    let mut i: usize = 0;
-    while i < values.len() {
-        sum = add(sum, values[i]);
-        i += 1;
+    let mut sum = Tally::start(t);
+    for v in values {
+        sum = sum.add(*v);
     }
-    total_of(sum)
+    sum.total()
 }

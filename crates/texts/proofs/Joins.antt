@@ -1,25 +1,26 @@
 -- Texts one behind the other: how far the first k of them reach.
-use mathlib.Core.Path.{◌≡◌, refl, sym, ap, ap₂, ◌∙◌, subst}
+use mathlib.Core.Path.{◌≡◌, refl, sym, ap, ap₂, ◌∙◌}
 use mathlib.Core.List.{List, [], ◌∷◌, ◌++◌, map, append-nil, append_assoc}
 use Prim.Native.Nat.{ℕ, zero, suc, ◌+◌, ◌-◌, ◌*◌, ◌≤◌, ◌<◌}
-use native.Mathlib.Nat.{add-zero}
 use native.Mathlib.Numerals.{add-one}
 use native.Mathlib.Omega.{arith}
-use lib.ListN.{length, take, drop, set, get_or, length-append, length-drop, length-set, replicate, drop_of_length-le, get_or-map}
+use lib.ListN.{length, take, drop, set, get_or, get_or-eq_default, length-append, length-drop, length-set, replicate, drop_of_length-le, get_or-map}
+use Rattle.std.specs.List.{sum}
+use Rattle.std.proofs.lemmas.List.Sums.{sum_by_more, sum_by-take-le}
+use lib.Dec.{ltb}
+use borrow.Author.Tests.{ltb-true, ltb-false}
+use borrow.Table.Steps.{cases as by}
 use lib.Seq.{paste, take-suc, take-suc-set, take_all, drop-drop}
 use borrow.Rule.Slice.PartMut.{put_mid, Post-is}
-use mir.Syntax.{w8}
-use mir.Val.{Fits}
-use Rattle.rules.specs.Rule.{gives}
-use Rattle.metadata.specs.Metadata.{metadata_rule}
-use Rattle.metadata.specs.declared.ChemstationMetadata.{ChemstationMetadata}
+use Rattle.fetch.specs.declared.described.Described.{Described}
 use Rattle.layouts.specs.Table.{field_of}
 use Rattle.layouts.proofs.Tables.{table}
 use Rattle.written.proofs.Puts.{paste_next}
-use Rattle.fetch.specs.Fetch.{text_of, replaced_in}
+use Rattle.fetch.specs.Fetch.{text_of}
+use Rattle.fetch.specs.declared.stored.Stored.{Stored}
+use Rattle.fetch.specs.Headers.{text_in, replaced_units, utf8_in}
 use Rattle.fetch.proofs.Texts.{text_bounded}
-use Rattle.texts.specs.Eight.{texts_of, joined, starts_from, laid_out, replaced_in_each, stored_bytes, Lays}
-use Rattle.texts.specs.declared.Laid.{Laid}
+use Rattle.texts.specs.Eight.{texts_of, joined, starts_from, Texts, texts_in, replaced_in_each, Lays}
 
 -- ---- the eight
 
@@ -32,13 +33,21 @@ module _ (e : ℕ) (h : List ℕ) where
   unfolding texts_of
   text_of_lem k l = table (texts_of e h) [] 8 (λ k. text_of (field_of k e) h) refl k l
 
-  pub eight_counts : length (replaced_in_each e h) ≡ 8
+module _ (d : Described) where
+  pub eight_texts : length (texts_in d) ≡ 8
+  eight_texts = eight d.says.edition d.bytes.now
+
+  -- text k, as the code has it
+  pub text_is : (k : ℕ) (t : Stored) → k < 8 → utf8_in t ≡ text_in k d → get_or (texts_in d) k [] ≡ utf8_in t
+  text_is k t l e = text_of_lem d.says.edition d.bytes.now k l ∙ sym e
+
+  pub eight_counts : length (replaced_in_each d) ≡ 8
   unfolding replaced_in_each
   eight_counts = refl
 
-  pub count_of : (k : ℕ) → k < 8 → get_or (replaced_in_each e h) k 0 ≡ replaced_in (field_of k e) h
+  pub count_of : (k : ℕ) → k < 8 → get_or (replaced_in_each d) k 0 ≡ replaced_units k d
   unfolding replaced_in_each
-  count_of k l = table (replaced_in_each e h) 0 8 (λ k. replaced_in (field_of k e) h) refl k l
+  count_of k l = table (replaced_in_each d) 0 8 (λ k. replaced_units k d) refl k l
 
 -- ---- the first k
 
@@ -86,32 +95,30 @@ module _ (ts : List (List ℕ)) (n k : ℕ) (t : List ℕ) (c : n ≡ length (be
   passes_by room h f = omega (arith, counts (length t) refl, reaches ts (k + 1))
 
 -- by the bytes that are stored of them
-stored_more : (d : ChemstationMetadata) (i j : ℕ) → stored_bytes d i ≤ stored_bytes d (i + j)
-stored_more d i zero = omega (arith, ap (stored_bytes d) (add-zero i))
-stored_more d i (suc j) = let e : i + suc j ≡ suc (i + j) = omega arith in omega (arith, stored_more d i j, ap (stored_bytes d) e)
+stored_more : (ns : List ℕ) (k : ℕ) → sum (take k ns) + get_or ns k 0 ≤ sum (take (suc k) ns)
+stored_more ns k =
+    by (ltb k (length ns))
+    (λ t.
+    let e : suc k ≡ k + 1 = omega arith in rw e (omega (arith, sum_by_more (λ x. x) ns k 0 (ltb-true _ _ t))))
+    λ t. let l = ltb-false _ _ t in rw (take_all k ns l, take_all (suc k) ns (omega (arith, l)), get_or-eq_default ns 0 l) (omega arith)
 
-pub stored_within : (d : ChemstationMetadata) (k : ℕ) → k ≤ 8 → stored_bytes d k ≤ stored_bytes d 8
-stored_within d k l = let e : k + (8 - k) ≡ 8 = omega arith in subst (λ (n : ℕ). stored_bytes d k ≤ stored_bytes d n) e (stored_more d k (8 - k))
-
-pub stored_next : (d : ChemstationMetadata) (k : ℕ) → stored_bytes d (k + 1) ≡ stored_bytes d k + get_or d.text_lengths k 0
-stored_next d k = rw add-one refl
-
-module _ (d : ChemstationMetadata) (h : List ℕ) (e : metadata_rule h ≡ gives d) (small : (i : ℕ) → Fits w8 (get_or h i 0)) where
-  bounded : (k : ℕ) → k ≤ 8 → length (joined (take k (texts_of d.edition h))) ≤ 2 * stored_bytes d k
+module _ (d : Described) where
+  bounded : (k : ℕ) → k ≤ 8 → length (joined (take k (texts_in d))) ≤ 2 * sum (take k d.says.text_lengths)
   bounded zero l = omega arith
   bounded (suc k) l =
-      let ts = texts_of d.edition h in
+      let ts = texts_in d in
       omega (
         arith,
         bounded k (omega arith),
-        ap length (one_more ts k (omega (arith, eight d.edition h))),
+        ap length (one_more ts k (omega (arith, eight d.says.edition d.bytes.now))),
         length-append (joined (take k ts)) (get_or ts k []),
-        ap length (text_of_lem d.edition h k (omega arith)),
-        text_bounded h d k e small,
+        ap length (text_of_lem d.says.edition d.bytes.now k (omega arith)),
+        text_bounded d k,
+        stored_more d.says.text_lengths k,
       )
 
-  pub all_bounded : length (joined (texts_of d.edition h)) ≤ 2 * stored_bytes d 8
-  all_bounded = let ts = texts_of d.edition h in omega (arith, bounded 8 (omega arith), ap (λ (r : List (List ℕ)). length (joined r)) (take_all 8 ts (omega (arith, eight d.edition h))))
+  pub all_bounded : length (joined (texts_in d)) ≤ 2 * sum d.says.text_lengths
+  all_bounded = let ts = texts_in d in omega (arith, bounded 8 (omega arith), ap (λ (r : List (List ℕ)). length (joined r)) (take_all 8 ts (omega (arith, eight d.says.edition d.bytes.now))), sum_by-take-le (λ x. x) d.says.text_lengths 8)
 
 -- ---- where they start
 
@@ -170,14 +177,14 @@ pub record Laying (ts : List (List ℕ)) (cs old starts lengths replaced new : L
   pub counts : Listed cs replaced k
   pub room : k ≤ length ts
 
-pub lay_starts : (ts : List (List ℕ)) (cs old : List ℕ) → length ts ≡ 8 → length cs ≡ 8 → Laying ts cs old (replicate 8 0) (replicate 8 0) (replicate 8 0) old 0 0
+pub lay_starts : (ts : List (List ℕ)) (cs old starts lengths : List ℕ) → length ts ≡ 8 → length cs ≡ 8 → length starts ≡ 8 → length lengths ≡ 8 → Laying ts cs old starts lengths (replicate 8 0) old 0 0
 unfolding before
-lay_starts ts cs old e f =
+lay_starts ts cs old starts lengths e f g h =
     record {
       bytes = refl;
       count = refl;
-      from = record { same = refl; long = sym (length_starts ts 0 ∙ e) };
-      of = record { same = refl; long = sym (length_lengths ts ∙ e) };
+      from = record { same = refl; long = g ∙ sym (length_starts ts 0 ∙ e) };
+      of = record { same = refl; long = h ∙ sym (length_lengths ts ∙ e) };
       counts = record { same = refl; long = sym f };
       room = omega arith;
     }
@@ -204,12 +211,12 @@ module _ (ts : List (List ℕ)) (cs old starts lengths replaced new : List ℕ) 
         room = omega arith;
       }
 
-pub laid : (ts : List (List ℕ)) (cs old starts lengths replaced new : List ℕ) (n k : ℕ) → Laying ts cs old starts lengths replaced new n k → length ts ≤ k → length cs ≤ k
-    → Lays (record { starts = starts; lengths = lengths; replaced = replaced; count = n }) old new ts cs
+pub laid : (ts : List (List ℕ)) (cs : List ℕ) (old : Texts) (starts lengths replaced new : List ℕ) (n k : ℕ) → Laying ts cs old.bytes starts lengths replaced new n k → length ts ≤ k → length cs ≤ k
+    → Lays (record { bytes = n; replaced = replaced }) old (record { bytes = new; starts = starts; lengths = lengths }) ts cs
 laid ts cs old starts lengths replaced new n k g l i =
     let all = all_before ts k l in
     let from = listed g.from (omega (arith, length_starts ts 0)) in
     let of = listed g.of (omega (arith, length_lengths ts)) in
     let c = g.count ∙ ap length all in
-    let b = g.bytes ∙ ap₂ (λ (r : List ℕ) (j : ℕ). r ++ drop j old) all c in
+    let b = g.bytes ∙ ap₂ (λ (r : List ℕ) (j : ℕ). r ++ drop j old.bytes) all c in
     record { all = λ i. record { bytes = b i; starts = from i; lengths = of i }; count = c; replaced = listed g.counts i }

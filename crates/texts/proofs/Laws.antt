@@ -1,89 +1,77 @@
 -- The answers, by what the rule reads; and each text is Fetch's.
-use mathlib.Core.Path.{◌≡◌, refl, sym, ap, ap₂, ◌∙◌, subst}
+use mathlib.Core.Path.{◌≡◌, refl, sym, ap, ap₂, ◌∙◌}
 use mathlib.Core.Bool.{Bool, true, false, ◌&&◌, cond, false≢true}
-use mathlib.Core.List.{List, [], ◌∷◌, ◌++◌, map, append_assoc}
+use mathlib.Core.List.{List, [], ◌++◌, append_assoc}
 use Prim.Native.Nat.{ℕ, ◌+◌, ◌-◌, ◌≤◌, ◌<◌}
 use native.Mathlib.Omega.{arith}
 use denote.Triple.Both.{Both}
 use lib.Dec.{leb}
 use lib.ListN.{length, take, drop, get_or, replicate, length-append}
 use lib.Seq.{take_at, drop_at}
-use borrow.Author.Tests.{le-leb, lt-leb, leb-true}
+use borrow.Author.Tests.{le-leb, lt-leb}
 use borrow.Table.Steps.{cases as by}
-use Rattle.rules.specs.Rule.{Stop, refused, Read, got, stops, read, map_read}
+use Rattle.rules.specs.Rule.{Read, got, stops, read, map_read}
 use Rattle.rules.proofs.Laws.{read_map}
-use Rattle.error.specs.Number.{number_of}
 use Rattle.error.specs.declared.Refusal.{Refusal}
 use Rattle.error.specs.declared.Refusal.TheVariants.{LentLength}
-use Rattle.layouts.specs.Table.{field_of}
 use Rattle.metadata.specs.Metadata.{Header, open_rule}
-use Rattle.fetch.specs.declared.Fetched.{Fetched}
-use Rattle.fetch.specs.declared.Fetched.TheVariants.{Text, Refused}
-use Rattle.fetch.specs.Fetch.{text_of, fetch_rule, Outcome, wrote, refuse, number_of_stop, outcome_of, fetched, Fetches, replaced_by, passed_on}
-use Rattle.fetch.proofs.Fetches.{text_in, fetch_reads}
-use Rattle.texts.specs.declared.Laid.{Laid}
+use Rattle.std.specs.Prelude.{Result, Ok, Err}
+use Rattle.fetch.specs.declared.FetchedText.{FetchedText}
+use Rattle.fetch.specs.declared.described.Described.{Described}
+use Rattle.fetch.specs.Fetch.{fetch_rule, wrote, refuse, fetched, Fetches}
+use Rattle.fetch.specs.Headers.{IsHeader, IsRefusal}
+use Rattle.fetch.proofs.Fetches.{text_read, fetch_reads}
 use Rattle.texts.specs.declared.FetchedTexts.{FetchedTexts}
-use Rattle.texts.specs.Eight.{numbers, texts_of, eight_rule, joined, starts_from, Texts, laid_out, texts_after, text_at, FetchesAll, AsFetched, Lies, all_passed, replaced_in_each, Lays}
+use Rattle.texts.specs.Eight.{texts_of, eight_rule, joined, Texts, laid_out, text_at, outcome_of, FetchesAll, AsFetched, Lies, all_passed, texts_in, replaced_in_each, Lays}
 use Rattle.texts.proofs.Joins.{eight, text_of_lem, before, none_before, grown, all_before, split_after, starts_at, length_at}
-
--- ---- the answers
-
-abbrev kept : Texts → Both Texts Texts
-kept old = record { entry = old; exit = old }
-
-pub all_refused : (old : Texts) (ts : List (List ℕ)) (n : ℕ) → length old.bytes < length (joined ts) → FetchesAll (Refused LentLength) (kept old) (got ts n)
-all_refused old ts n h = record { answer = simp (lt-leb _ _ h); memory = simp (lt-leb _ _ h) }
-
-pub all_laid : (old : Texts) (ts : List (List ℕ)) (cs : List ℕ) (n : ℕ) (l : Laid) (new : List ℕ) → length (joined ts) ≤ length old.bytes → Lays l old.bytes new ts cs
-    → FetchesAll (Text l.count) (record { entry = old; exit = record { bytes = new; starts = l.starts; lengths = l.lengths } }) (got ts n)
-all_laid old ts cs n l new h p = record { answer = simp (le-leb _ _ h) (ap wrote p.count); memory = simp (le-leb _ _ h) p.all }
-
-pub all_stopped : (old : Texts) {r : Refusal} {z : Stop} {x : Read (List (List ℕ))} → x ≡ stops z → number_of r ≡ number_of_stop z → FetchesAll (Refused r) (kept old) x
-all_stopped old e n = rw e (record { answer = ap refuse n; memory = refl })
-
--- a refusal as the code has it
-pub answered : (t : FetchedTexts) {r : Fetched} {m : Both Texts Texts} {x : Read (List (List ℕ))} → t.answer ≡ r → FetchesAll r m x → FetchesAll t.answer m x
-answered t {m = m} {x} e f = subst (λ (a : Fetched). FetchesAll a m x) (sym e) f
-
--- how many bytes were read does not matter
-pub all_text : {r : Fetched} {m : Both Texts Texts} {ts : List (List ℕ)} {j n : ℕ} {x : Read (List (List ℕ))} → x ≡ got ts j → FetchesAll r m (got ts n) → FetchesAll r m x
-all_text e f = rw e (record { answer = f.answer; memory = f.memory })
 
 -- ---- the rule
 
-abbrev pub texts_in : Header → List (List ℕ)
-texts_in x = texts_of x.says.edition x.bytes
+abbrev pub texts_read : Header → List (List ℕ)
+texts_read x = texts_of x.says.edition x.bytes
 
-pub eight_opens : (kind : ℕ) (s : List ℕ) → read true (eight_rule kind) s ≡ map_read texts_in (read true (open_rule kind) s)
+pub eight_opens : (kind : ℕ) (s : List ℕ) → read true (eight_rule kind) s ≡ map_read texts_read (read true (open_rule kind) s)
 unfolding eight_rule
-eight_opens kind s = read_map true texts_in (open_rule kind) s
+eight_opens kind s = read_map true texts_read (open_rule kind) s
 
--- ---- the numbers beside the answer
+-- ---- the answers, by what is read
 
-pub counts_kept : (e n : ℕ) (h : List ℕ) → replaced_in_each e h ≡ map (passed_on (wrote n)) (replaced_in_each e h)
-unfolding replaced_in_each
-counts_kept e n h = refl
+module _ (kind : ℕ) (s : List ℕ) (old : Texts) where
+  -- the memory is as it was, and each count 0
+  abbrev Refuses : Refusal → Type 0
+  Refuses r = FetchesAll (Err r) (record { entry = old; exit = old }) (read true (eight_rule kind) s) × (replicate 8 0 ≡ all_passed kind old.bytes s)
 
--- of a refusal each is 0
-pub counts_dropped : (e : ℕ) (h : List ℕ) (a : Fetched) {r : Refusal} → a ≡ Refused r → replicate 8 0 ≡ map (passed_on (outcome_of a)) (replaced_in_each e h)
-unfolding replaced_in_each
-counts_dropped e h a p = rw p
-
-module _ (kind : ℕ) (s : List ℕ) where
-  -- by the answer and what Open reads
-  abbrev given : Outcome → Read Header → List ℕ
-  given o x = map (λ number. passed_on o (replaced_by number x)) numbers
-
-  pub all_passed_lem : {r : Fetched} {m : Both Texts Texts} → FetchesAll r m (read true (eight_rule kind) s) → given (outcome_of r) (read true (open_rule kind) s) ≡ all_passed kind m.entry.bytes s
+  -- as Open
+  pub opening_refused : {r : Refusal} → IsRefusal r (read true (open_rule kind) s) → Refuses r
   unfolding all_passed
-  all_passed_lem f = ap (λ (o : Outcome). given o (read true (open_rule kind) s)) f.answer
+  opening_refused {r} h = go (read true (open_rule kind) s) refl h
+    where
+      go : (x : Read Header) → read true (open_rule kind) s ≡ x → IsRefusal r x → Refuses r
+      go (got x n) e h = absurd h
+      go (stops z) e h = let q = eight_opens kind s ∙ ap (map_read texts_read) e in rw q (record { answer = ap refuse h; memory = refl }, refl)
 
-  pub none_passed : (a : Fetched) {r : Refusal} → a ≡ Refused r → replicate 8 0 ≡ given (outcome_of a) (read true (open_rule kind) s)
-  none_passed a p = rw p
+  module _ (d : Described) (h : IsHeader d (read true (open_rule kind) s)) where
+    -- no room for them
+    pub room_refused : length old.bytes < length (joined (texts_in d)) → Refuses LentLength
+    unfolding all_passed
+    room_refused l = go (read true (open_rule kind) s) refl h
+      where
+        go : (x : Read Header) → read true (open_rule kind) s ≡ x → IsHeader d x → Refuses LentLength
+        go (stops z) e h = absurd h
+        go (got x n) e h =
+            let q = eight_opens kind s ∙ ap (map_read texts_read) e in
+            rw (q, h.0, h.1) (record { answer = simp (lt-leb _ _ l); memory = simp (lt-leb _ _ l) }, simp (lt-leb _ _ l) refl)
 
-  pub some_passed : (o : Outcome) (x : Header) (n : ℕ) → read true (open_rule kind) s ≡ got x n → map (passed_on o) (replaced_in_each x.says.edition x.bytes) ≡ given o (read true (open_rule kind) s)
-  unfolding replaced_in_each
-  some_passed o x n e = rw e
+    pub texts_laid : (t : FetchedTexts) (new : Texts) → length (joined (texts_in d)) ≤ length old.bytes → Lays t old new (texts_in d) (replaced_in_each d)
+        → FetchesAll (Ok t) (record { entry = old; exit = new }) (read true (eight_rule kind) s) × (t.replaced ≡ all_passed kind old.bytes s)
+    unfolding all_passed replaced_in_each
+    texts_laid t new r p = go (read true (open_rule kind) s) refl h
+      where
+        go : (x : Read Header) → read true (open_rule kind) s ≡ x → IsHeader d x → FetchesAll (Ok t) (record { entry = old; exit = new }) (read true (eight_rule kind) s) × (t.replaced ≡ all_passed kind old.bytes s)
+        go (stops z) e h = absurd h
+        go (got x n) e h =
+            let q = eight_opens kind s ∙ ap (map_read texts_read) e in
+            rw (q, h.0, h.1) (record { answer = simp (le-leb _ _ r) (ap wrote p.count); memory = simp (le-leb _ _ r) p.all }, simp (le-leb _ _ r) (rw (e, h.0, h.1) p.replaced))
 
 -- ---- each text is Fetch's
 
@@ -91,7 +79,7 @@ module _ (kind number : ℕ) (s : List ℕ) (least : 1 ≤ number) (most : numbe
   nth : List (List ℕ) → List ℕ
   nth ts = get_or ts (number - 1) []
 
-  of_each : (x : Read Header) → map_read (text_in number) x ≡ map_read nth (map_read texts_in x)
+  of_each : (x : Read Header) → map_read (text_read number) x ≡ map_read nth (map_read texts_read x)
   unfolding nth
   of_each (got x n) = ap (λ (t : List ℕ). got t n) (sym (text_of_lem x.says.edition x.bytes (number - 1) (omega arith)))
   of_each (stops z) = refl
@@ -115,7 +103,7 @@ stands ts old k l =
     ∙ ap (take (length t)) (drop_at (before ts k) (t ++ rest) (length (before ts k)) refl) ∙ take_at t rest (length t) refl
 
 -- what was written fits
-fitted : (ts : List (List ℕ)) (old : Texts) (r : Fetched) (n : ℕ) → outcome_of r ≡ fetched (length old.bytes) (got (joined ts) 0) → outcome_of r ≡ wrote n → leb (length (joined ts)) (length old.bytes) ≡ true
+fitted : (ts : List (List ℕ)) (old : Texts) (r : Result FetchedTexts Refusal) (n : ℕ) → outcome_of r ≡ fetched (length old.bytes) (got (joined ts) 0) → outcome_of r ≡ wrote n → leb (length (joined ts)) (length old.bytes) ≡ true
 fitted ts old r n a e =
     by (leb (length (joined ts)) (length old.bytes)) (λ t. t)
     λ t. let b : outcome_of r ≡ refuse 15 = simp t at a in absurd (false≢true cc)
@@ -127,10 +115,10 @@ fifteen : (b : Bool) (n c : ℕ) → cond b (wrote n) (refuse 15) ≡ refuse c �
 fifteen true n c e = absurd (false≢true cc)
 fifteen false n c e = cc
 
-module _ (r f : Fetched) (m : Both Texts Texts) (number : ℕ) (old new : List ℕ) (least : 1 ≤ number) (most : number ≤ 8) where
-  agrees_on : (x : Read Header) → FetchesAll r m (map_read texts_in x) → Fetches f old new (map_read (λ ts. get_or ts (number - 1) []) (map_read texts_in x)) → AsFetched r m number f old new
+module _ (r : Result FetchedTexts Refusal) (f : Result FetchedText Refusal) (m : Both Texts Texts) (number : ℕ) (old new : List ℕ) (least : 1 ≤ number) (most : number ≤ 8) where
+  agrees_on : (x : Read Header) → FetchesAll r m (map_read texts_read x) → Fetches f old new (map_read (λ ts. get_or ts (number - 1) []) (map_read texts_read x)) → AsFetched r m number f old new
   agrees_on (got x j) a b =
-      let ts = texts_in x in
+      let ts = texts_read x in
       record {
         given = λ n e.
             let t = fitted ts m.entry r n a.answer e in
@@ -145,7 +133,7 @@ module _ (r f : Fetched) (m : Both Texts Texts) (number : ℕ) (old new : List �
         refused = λ c k e. b.answer ∙ sym a.answer ∙ e;
       }
 
-pub agrees : (kind number : ℕ) (s : List ℕ) (r f : Fetched) (m : Both Texts Texts) (old new : List ℕ) → 1 ≤ number → number ≤ 8 → FetchesAll r m (read true (eight_rule kind) s)
+pub agrees : (kind number : ℕ) (s : List ℕ) (r : Result FetchedTexts Refusal) (f : Result FetchedText Refusal) (m : Both Texts Texts) (old new : List ℕ) → 1 ≤ number → number ≤ 8 → FetchesAll r m (read true (eight_rule kind) s)
     → Fetches f old new (read true (fetch_rule kind number) s) → AsFetched r m number f old new
 agrees kind number s r f m old new least most a b =
     let e = eight_opens kind s in
@@ -174,7 +162,7 @@ module _ (ts : List (List ℕ)) (old : List ℕ) (e : length ts ≡ 8) where
   untouched : drop (length (joined ts)) all.bytes ≡ drop (length (joined ts)) old
   untouched = drop_at (joined ts) (drop (length (joined ts)) old) (length (joined ts)) refl
 
-counts_all : (ts : List (List ℕ)) (old : Texts) (r : Fetched) (n : ℕ) → outcome_of r ≡ fetched (length old.bytes) (got (joined ts) 0) → outcome_of r ≡ wrote n → n ≡ length (joined ts)
+counts_all : (ts : List (List ℕ)) (old : Texts) (r : Result FetchedTexts Refusal) (n : ℕ) → outcome_of r ≡ fetched (length old.bytes) (got (joined ts) 0) → outcome_of r ≡ wrote n → n ≡ length (joined ts)
 counts_all ts old r n a e =
     let b : outcome_of r ≡ wrote (length (joined ts)) = simp (fitted ts old r n a e) at a in cc
 
@@ -182,10 +170,10 @@ refused_all : (b : Bool) (ts : List (List ℕ)) (old : Texts) (n c : ℕ) → co
 refused_all true ts old n c e = absurd (false≢true cc)
 refused_all false ts old n c e = refl
 
-module _ (r : Fetched) (m : Both Texts Texts) where
-  lies_in : (x : Read Header) → FetchesAll r m (map_read texts_in x) → Lies r m
+module _ (r : Result FetchedTexts Refusal) (m : Both Texts Texts) where
+  lies_in : (x : Read Header) → FetchesAll r m (map_read texts_read x) → Lies r m
   lies_in (got x j) a =
-      let ts = texts_in x in
+      let ts = texts_read x in
       let e = eight x.says.edition x.bytes in
       let laid : (n : ℕ) → outcome_of r ≡ wrote n → m.exit ≡ laid_out ts m.entry.bytes = λ n q. let t = fitted ts m.entry r n a.answer q in simp t at a.memory in
       record {
@@ -204,5 +192,5 @@ module _ (r : Fetched) (m : Both Texts Texts) where
         rest = λ n q. absurd (no_text (sym a.answer ∙ q));
       }
 
-pub lies : (kind : ℕ) (s : List ℕ) (r : Fetched) (m : Both Texts Texts) → FetchesAll r m (read true (eight_rule kind) s) → Lies r m
+pub lies : (kind : ℕ) (s : List ℕ) (r : Result FetchedTexts Refusal) (m : Both Texts Texts) → FetchesAll r m (read true (eight_rule kind) s) → Lies r m
 lies kind s r m a = lies_in r m (read true (open_rule kind) s) (rw (eight_opens kind s) at a)

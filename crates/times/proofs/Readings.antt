@@ -23,7 +23,7 @@ use Rattle.modes.specs.Modes.{open_by, begins_by, start_by}
 use Rattle.streams.specs.declared.Mode.{Mode}
 use Rattle.streams.specs.declared.Mode.TheVariants.{Plain, Atlas}
 use Rattle.streams.specs.declared.State.TheVariants.{Fid, Ms, Mwd, Dad, Uv, Array, AtlasDad, AtlasUv}
-use Rattle.reader.specs.Columns.{row_of, Columns, columns_with}
+use Rattle.reader.specs.Columns.{row_of, Held, columns_with}
 use Rattle.times.specs.Times.{scan_time, scan_minutes, stores, Carries, Stamped, Timed, Agrees, All}
 use Rattle.reader.specs.declared.Row.{Row}
 use Rattle.times.proofs.Told.{Tells, tells}
@@ -170,7 +170,7 @@ zero_column : (f : Row → ℕ) → ((r : Record) → Bare r → f (row_of r) �
 zero_column f h [] p = refl
 zero_column f h (r ∷ rs) p = ap₂ (λ x l. x ∷ l) (h r p.0) (zero_column f h rs p.1)
 
-pub zeros : (st : State) → stores st ≡ false → (last : Bool) (n : ℕ) (s : List ℕ) (old : Columns) →
+pub zeros : (st : State) → stores st ≡ false → (last : Bool) (n : ℕ) (s : List ℕ) (old : Held) →
     let rs = (read_up_to rule last n st s).records in
     ((columns_with rs old).minutes ≡ replicate (length rs) 0 ++ drop (length rs) old.minutes) × ((columns_with rs old).leftover ≡ replicate (length rs) 0 ++ drop (length rs) old.leftover)
 zeros st e last n s old =

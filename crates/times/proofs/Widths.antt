@@ -19,27 +19,27 @@ use Rattle.streams.specs.declared.State.{State}
 use Rattle.ms.specs.Ms.{ms_scans, ms_point}
 use Rattle.streams.specs.declared.Record.{Record}
 use Rattle.streams.specs.declared.Record.TheVariants.{Trace, Mass, Spectrum}
-use Rattle.reader.specs.Columns.{row_of, Columns, equal_lengths, columns_with, fill_of}
+use Rattle.reader.specs.Columns.{row_of, Held, equal_lengths, columns_with, fill_of}
 use Rattle.reader.proofs.ColumnLaws.{even_if}
 use Rattle.times.specs.Times.{Carries, CarriesRow, OneLength, shown_run, shown_columns}
 
-equal_if : (c : Columns) → OneLength c → equal_lengths c ≡ true
+equal_if : (c : Held) → OneLength c → equal_lengths c ≡ true
 equal_if c e = rw (eq-eqb _ _ e.axis, eq-eqb _ _ e.unscaled, eq-eqb _ _ e.scaled, eq-eqb _ _ e.minutes, eq-eqb _ _ e.leftover) refl
 
-pub equal : (st : State) (s : List ℕ) (last : Bool) (c : Columns) → OneLength c → fill_of st s last c ≡ read_up_to rule last (length c.time) st s
+pub equal : (st : State) (s : List ℕ) (last : Bool) (c : Held) → OneLength c → fill_of st s last c ≡ read_up_to rule last (length c.time) st s
 equal st s last c h = rw (equal_if c h) refl
 
-one_length : (c : Columns) → equal_lengths c ≡ true → OneLength c
+one_length : (c : Held) → equal_lengths c ≡ true → OneLength c
 one_length c e = let h = even_if c e in record { axis = h.axis; unscaled = h.unscaled; scaled = h.scaled; minutes = h.minutes; leftover = h.leftover }
 
-pub unequal : (st : State) (s : List ℕ) (last : Bool) (c : Columns) → ¬ OneLength c → fill_of st s last c ≡ nothing st (stopped (refused 15))
+pub unequal : (st : State) (s : List ℕ) (last : Bool) (c : Held) → ¬ OneLength c → fill_of st s last c ≡ nothing st (stopped (refused 15))
 unequal st s last c h = go (equal_lengths c) refl
   where
     go : (b : Bool) → equal_lengths c ≡ b → fill_of st s last c ≡ nothing st (stopped (refused 15))
     go true e = absurd (h (one_length c e))
     go false e = rw e refl
 
-pub unwritten : (c : Columns) → columns_with [] c ≡ c
+pub unwritten : (c : Held) → columns_with [] c ≡ c
 unwritten c = refl
 
 pub exact : (ms : ℕ) → ms < 2 ^ 32 → IsWhole binary64 (double ms) (pos ms)

@@ -18,7 +18,7 @@ use Rattle.opening.specs.Opening.{ms_begins}
 use Rattle.streams.specs.declared.Mode.{Mode}
 use Rattle.modes.specs.Modes.{begins_by, start_by}
 use denote.Triple.Both.{Both}
-use Rattle.reader.specs.Columns.{row_of, Columns, columns, columns_with, fill_of, Fills}
+use Rattle.reader.specs.Columns.{row_of, Held, columns, columns_with, fill_of, Fills}
 use Rattle.reader.specs.declared.Filled.{Filled}
 use Rattle.reader.specs.declared.Row.{Row}
 
@@ -127,7 +127,7 @@ All P (r ∷ rs) = P r × All P rs
 -- ---- the length check
 
 -- all six of one length
-pub record OneLength (c : Columns) : Type 0 where
+pub record OneLength (c : Held) : Type 0 where
   pub axis : length c.axis ≡ length c.time
   pub unscaled : length c.unscaled ≡ length c.time
   pub scaled : length c.scaled ≡ length c.time
@@ -141,7 +141,7 @@ unfoldable pub shown_run : List ℕ
 shown_run = (0 ∷ 14 ∷ 0 ∷ 0 ∷ 234 ∷ 96 ∷ replicate 22 0) ++ (0 ∷ 18 ∷ 0 ∷ 1 ∷ 232 ∷ 73 ∷ (replicate 12 0 ++ (0 ∷ 0 ∷ 0 ∷ 1 ∷ 0 ∷ 0 ∷ 0 ∷ 2 ∷ replicate 10 0)))
 
 -- its records, in columns of three places that held 7
-abbrev pub shown_columns : Columns
+abbrev pub shown_columns : Held
 shown_columns = columns_with (read_up_to rule true 3 (ms_begins (record { 0 = 2 })) shown_run).records (columns [] [] [] [] (7 ∷ 7 ∷ 7 ∷ []) (7 ∷ 7 ∷ 7 ∷ []))
 
 -- ---- the theorem
@@ -153,7 +153,7 @@ pub record StoredTimes : Type 0 where
   pub opens : (mode : Mode) (kind : ℕ) (x : Header) → (stored_of (begins_by mode kind x) ≡ 0) × Agrees (begins_by mode kind x)
   pub keeps : (st : State) (last : Bool) (s : List ℕ) (x : Item State Record) (n : ℕ) → read last (rule st) s ≡ got x n → Agrees st → Timed x.shows × Agrees x.after
   -- what the contract of Fill columns says of its answer and its columns is what stands below of `fill_of` and `columns_with`
-  pub fills : (st : State) (s : List ℕ) (last : Bool) (r : Filled) (c : Both Columns Columns) → Fills st s last r c →
+  pub fills : (st : State) (s : List ℕ) (last : Bool) (r : Filled) (c : Both Held Held) → Fills st s last r c →
       let g = fill_of st s last c.entry in
       (r.count ≡ length g.records) × ((r.state ≡ g.state) × (c.exit ≡ columns_with g.records c.entry))
   -- so from Open on, whatever the calls that are told that their bytes are not the last, and in one reading told either
@@ -162,16 +162,16 @@ pub record StoredTimes : Type 0 where
   -- a u32 is a double without rounding, so that the division's is the one
   pub exact : (ms : ℕ) → ms < 2 ^ 32 → IsWhole binary64 (double ms) (pos ms)
   -- what a record carries stands in its row, and the rows stand in the two columns
-  pub columns : (rs : List Record) (old : Columns) →
+  pub columns : (rs : List Record) (old : Held) →
       ((columns_with rs old).minutes ≡ map (λ r. (row_of r).minutes) rs ++ drop (length rs) old.minutes) × ((columns_with rs old).leftover ≡ map (λ r. (row_of r).leftover) rs ++ drop (length rs) old.leftover)
   pub rows : (b : Bool) (r : Record) (ms : ℕ) → Carries b r ms → CarriesRow b (row_of r) ms
   -- 'kinds without a stored time write 0 in both', up to the count
-  pub zeros : (st : State) → stores st ≡ false → (last : Bool) (n : ℕ) (s : List ℕ) (old : Columns) →
+  pub zeros : (st : State) → stores st ≡ false → (last : Bool) (n : ℕ) (s : List ℕ) (old : Held) →
       let rs = (read_up_to rule last n st s).records in
       ((columns_with rs old).minutes ≡ replicate (length rs) 0 ++ drop (length rs) old.minutes) × ((columns_with rs old).leftover ≡ replicate (length rs) 0 ++ drop (length rs) old.leftover)
   -- 'under the same length check as the others': one, over all six; where it fails nothing is written
-  pub equal : (st : State) (s : List ℕ) (last : Bool) (c : Columns) → OneLength c → fill_of st s last c ≡ read_up_to rule last (length c.time) st s
-  pub unequal : (st : State) (s : List ℕ) (last : Bool) (c : Columns) → ¬ OneLength c → fill_of st s last c ≡ nothing st (stopped (refused 15))
-  pub unwritten : (c : Columns) → columns_with [] c ≡ c
+  pub equal : (st : State) (s : List ℕ) (last : Bool) (c : Held) → OneLength c → fill_of st s last c ≡ read_up_to rule last (length c.time) st s
+  pub unequal : (st : State) (s : List ℕ) (last : Bool) (c : Held) → ¬ OneLength c → fill_of st s last c ≡ nothing st (stopped (refused 15))
+  pub unwritten : (c : Held) → columns_with [] c ≡ c
   -- 2 minutes and 5,001 milliseconds, twice, and the third place as it was
   pub shown : (shown_columns.minutes ≡ 2 ∷ 2 ∷ 7 ∷ []) × (shown_columns.leftover ≡ 5001 ∷ 5001 ∷ 7 ∷ [])

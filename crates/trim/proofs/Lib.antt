@@ -1,4 +1,2 @@
-pub mod Trims
 pub mod Stands
-pub mod Spaces
-pub mod Ascii
+pub mod Library

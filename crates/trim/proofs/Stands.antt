@@ -6,17 +6,16 @@ use Prim.Native.Nat.{ℕ, ◌+◌, ◌≤◌}
 use native.Mathlib.Omega.{arith}
 use lib.ListN.{length, take, drop, length-append}
 use lib.Seq.{take_at, drop_at}
-use Rattle.trim.specs.declared.Trimmed.TheVariants.{At}
 use Rattle.utf8.specs.Utf8.{encode, encodes, Utf8, Decoded, bad, text, decode}
-use Rattle.trim.specs.WhiteSpace.{white, leading, trim_start, keep, trim_end, trim, placed, trimmed_of, Stands, Means}
+use Rattle.trim.specs.WhiteSpace.{at, white, leading, trim_start, keep, trim_end, trim, placed, trimmed_of, Stands, Means}
 use Rattle.utf8.proofs.Decodes.{decoded, exactly}
 
-encodes_append : (a b : List ℕ) → encodes (a ++ b) ≡ encodes a ++ encodes b
+pub encodes_append : (a b : List ℕ) → encodes (a ++ b) ≡ encodes a ++ encodes b
 unfolding encodes
 encodes_append [] b = refl
 encodes_append (c ∷ cs) b = ap (λ (l : List ℕ). encode c ++ l) (encodes_append cs b) ∙ sym (append_assoc (encode c) (encodes cs) (encodes b))
 
-start_is : (cs : List ℕ) → cs ≡ leading cs ++ trim_start cs
+pub start_is : (cs : List ℕ) → cs ≡ leading cs ++ trim_start cs
 unfolding leading trim_start
 start_is [] = refl
 start_is (c ∷ cs) = go (white c) (start_is cs)
@@ -64,7 +63,7 @@ means bs = go (decode bs) refl
 
 -- ---- for callers: the place lies in the bytes, and holds the text
 
-pub stands_at : (bs : List ℕ) (p n : ℕ) → trimmed_of bs ≡ At p n → Stands bs p n
+pub stands_at : (bs : List ℕ) (p n : ℕ) → trimmed_of bs ≡ at p n → Stands bs p n
 stands_at bs p n e = rw e at (means bs)
 
 pub inside_bounds : {bs : List ℕ} {p n : ℕ} → Stands bs p n → p + n ≤ length bs

@@ -1,9 +1,8 @@
 -- UTF-16 (the Unicode standard, 3.9: D91, Table 3-5), its units little-endian.
-use Rattle.std.specs.Prelude.{◌≡◌, Bool, not, cond, ◌&&◌, ◌||◌, List, [], ◌∷◌, ◌++◌, ℕ, zero, suc, ◌+◌, ◌-◌, ◌*◌, ◌/◌, ◌%◌, ◌≤◌, ◌<◌, ltb, length, get_or, drop}
+use Rattle.std.specs.Prelude.{◌≡◌, Bool, not, cond, ◌&&◌, ◌||◌, List, [], ◌∷◌, ◌++◌, ℕ, zero, suc, ◌+◌, ◌-◌, ◌*◌, ◌/◌, ◌%◌, ◌≤◌, ltb, length, get_or, drop, Option, None, Some}
 use Rattle.utf8.specs.Utf8.{Scalars, within, encode, encodes}
-use Rattle.written.specs.declared.Written.{Written}
-use Rattle.written.specs.declared.Written.TheVariants.{Bytes, NoRoom}
 use Rattle.utf16.specs.declared.Piece.{Piece}
+use Rattle.utf16.specs.declared.Recoded.{Recoded}
 
 -- An odd byte at the end is no unit. No caller passes one.
 abbrev pub units : List ℕ → List ℕ
@@ -64,10 +63,10 @@ places_below (suc n) test = places_below n test + cond (test n) 1 0
 unfoldable pub unpaired : List ℕ → ℕ
 unpaired us = places_below (length us) (lacks_partner us)
 
--- what the decoder reports: their number, and 0 where nothing is written
-abbrev pub reported : Written → ℕ → ℕ
-reported (Bytes n) count = count
-reported NoRoom count = 0
+-- the count of bytes that the decoder answers
+abbrev pub bytes_of : Option Recoded → Option ℕ
+bytes_of None = None
+bytes_of (Some r) = Some r.bytes
 
 -- ---- Steps of the code.
 
@@ -79,13 +78,12 @@ replaced_alone u = cond (within 0xD800 0xDFFF u) 1 0
 abbrev pub piece_of : ℕ → ℕ → Piece
 piece_of u v = cond (is_high u && is_low v) (record { scalar = pair u v; width = 4; replaced = 0 }) (record { scalar = alone u; width = 2; replaced = replaced_alone u })
 
-abbrev pub unit_at : List ℕ → ℕ → ℕ
-unit_at s at = get_or (units (drop at s)) 0 0
+abbrev pub first_unit : List ℕ → ℕ
+first_unit s = get_or (units s) 0 0
 
--- r is what the UTF-16 from a place on begins with
-pub record First (s : List ℕ) (at : ℕ) (r : Piece) : Type 0 where
-  pub small : r.scalar < 0x110000
+-- r is what the UTF-16 in s begins with
+pub record First (s : List ℕ) (r : Piece) : Type 0 where
   pub moves : 2 ≤ r.width
-  pub fits : at + r.width ≤ length s
-  pub begins : utf8_of (drop at s) ≡ encode r.scalar ++ utf8_of (drop (at + r.width) s)
-  pub counts : unpaired (units (drop at s)) ≡ r.replaced + unpaired (units (drop (at + r.width) s))
+  pub fits : r.width ≤ length s
+  pub begins : utf8_of s ≡ encode r.scalar ++ utf8_of (drop r.width s)
+  pub counts : unpaired (units s) ≡ r.replaced + unpaired (units (drop r.width s))

@@ -1,54 +1,29 @@
 // UTF-16 made into UTF-8, in a lent buffer.
 #![tactic(auto)]
 
-ghost use Rattle.std.specs.Prelude.{◌≡◌, List, ◌++◌, ℕ, ◌+◌, ◌≤◌, ◌<◌, leb, length, drop};
-ghost use Rattle.std.proofs.Math.Seq.{paste};
+ghost use Rattle.std.specs.Prelude.{IfSome, MatchOption, ◌≡◌, List, ◌++◌, ℕ, ◌+◌, ◌≤◌, ◌<◌, leb, length, drop};
+ghost use Rattle.std.specs.Iterator.{at_most};
 ghost use Rattle.utf8.specs.Utf8.{encode, six, Utf8};
 ghost use Rattle.written.specs.Written.{written, Puts};
 ghost use Rattle.common.specs.Bytes.{AreBytes};
-ghost use Rattle.utf16.specs.Utf16.{units, utf16, utf8_of, unpaired, reported, piece_of, unit_at, First};
-
-use utf8::{wide, within};
-use written::Written;
+ghost use Rattle.utf16.specs.Utf16.{units, utf16, utf8_of, unpaired, bytes_of, piece_of, first_unit, First};
 
 // A scalar, how many bytes of UTF-16 it takes, and how many units of these were replaced by it: one or none.
 #[derive(Clone, Copy)]
 struct Piece {
-    pub scalar: u32,
+    pub scalar: char,
     pub width: usize,
     pub replaced: usize,
 }
 
 // The bytes of UTF-8 that were put, and the units that were replaced on the way.
-#[derive(Clone, Copy)]
+#[derive(Clone, Copy, Debug, PartialEq, Eq)]
 pub struct Recoded {
     pub bytes: usize,
     pub replaced: usize,
 }
 
-// What was written, and how many units were replaced in it.
-#[derive(Clone, Copy)]
-pub struct Decoding {
-    pub answer: Written,
-    pub replaced: usize,
-}
-
 // ---- The UTF-8 of a scalar
-
-fn width_of(c: u32) -> usize
-    ensures { result ≡ length (encode c) }
-{
-    if c < 0x80 {
-        return 1;
-    }
-    if c < 0x800 {
-        return 2;
-    }
-    if c < 0x10000 {
-        return 3;
-    }
-    4
-}
 
 fn byte(c: u32) -> u8
     requires { c < 256 }
@@ -63,132 +38,137 @@ fn six(c: u32) -> u8
     byte(0x80 + c % 64)
 }
 
-// Puts the UTF-8 of a scalar at a place, and answers the place behind it.
-fn put_scalar(out: &mut [u8], at: usize, c: u32) -> usize
-    requires { (c < 0x110000) × (at + length (encode c) ≤ length out.old) }
-    ensures { (result ≡ at + length (encode c)) × (out.new ≡ paste out.old at (encode c) (length (encode c))) }
+// Puts the UTF-8 of a scalar at the start of out, and answers its length.
+// Kept: stored byte by byte, since the contract of `encode_utf8` does not say what the memory holds behind its bytes.
+fn put_scalar(out: &mut [u8], scalar: char) -> usize
+    requires { length (encode scalar) ≤ length out.old }
+    ensures { (result ≡ length (encode scalar)) × (out.new ≡ encode scalar ++ drop (length (encode scalar)) out.old) }
 {
+    let c = u32::from(scalar);
     if c < 0x80 {
-        out[at] = byte(c);
-        return at + 1;
+        out[0] = byte(c);
+        return 1;
     }
     if c < 0x800 {
-        out[at] = byte(0xC0 + c / 64);
-        out[at + 1] = six(c);
-        return at + 2;
+        out[0] = byte(0xC0 + c / 64);
+        out[1] = six(c);
+        return 2;
     }
     if c < 0x10000 {
-        out[at] = byte(0xE0 + c / 64 / 64);
-        out[at + 1] = six(c / 64);
-        out[at + 2] = six(c);
-        return at + 3;
+        out[0] = byte(0xE0 + c / 64 / 64);
+        out[1] = six(c / 64);
+        out[2] = six(c);
+        return 3;
     }
-    out[at] = byte(0xF0 + c / 64 / 64 / 64);
-    out[at + 1] = six(c / 64 / 64);
-    out[at + 2] = six(c / 64);
-    out[at + 3] = six(c);
-    at + 4
+    out[0] = byte(0xF0 + c / 64 / 64 / 64);
+    out[1] = six(c / 64 / 64);
+    out[2] = six(c / 64);
+    out[3] = six(c);
+    4
 }
 
 // ---- UTF-16
 
 // Stands for each surrogate that is part of no pair.
-const REPLACEMENT: u32 = 0xFFFD;
+const REPLACEMENT: char = '\u{FFFD}';
 
 // It stands for one unit.
 const REPLACED: usize = 1;
 
-// The unit at a place, or 0 where there is none.
-fn unit_at(s: &[u8], at: usize) -> u32
-    requires { at ≤ length s.now }
-    ensures { (result ≡ unit_at s.now at) × (result < 65536) }
+// The first unit of some bytes, or 0 where there is none.
+fn first_unit(s: &[u8]) -> u16
+    ensures { result ≡ first_unit s.now }
 {
-    if s.len() - at < 2 {
-        return 0;
+    match s {
+        [a, b, ..] => u16::from_le_bytes([*a, *b]),
+        _ => 0,
     }
-    wide(s[at]) + 256 * wide(s[at + 1])
 }
 
-fn piece_of(u: u32, v: u32) -> Piece
+// What the unit u begins, if v is the next.
+fn piece_of(u: u16, v: u16) -> Piece
     ensures { result ≡ piece_of u v }
 {
-    if !within(0xD800, 0xDFFF, u) {
-        return Piece {
-            scalar: u,
-            width: 2,
+    let pair = (0xD800..=0xDBFF).contains(&u) && (0xDC00..=0xDFFF).contains(&v);
+    let (code, width) = if pair {
+        let high = u32::from(u - 0xD800);
+        let low = u32::from(v - 0xDC00);
+        (0x10000 + high * 1024 + low, 4)
+    } else {
+        (u32::from(u), 2)
+    };
+    match char::from_u32(code) {
+        Some(scalar) => Piece {
+            scalar,
+            width,
             replaced: 0,
-        };
-    }
-    if 0xDBFF < u {
-        return Piece {
+        },
+        None => Piece {
             scalar: REPLACEMENT,
-            width: 2,
+            width,
             replaced: REPLACED,
-        };
-    }
-    if !within(0xDC00, 0xDFFF, v) {
-        return Piece {
-            scalar: REPLACEMENT,
-            width: 2,
-            replaced: REPLACED,
-        };
-    }
-    let high = u - 0xD800;
-    let low = v - 0xDC00;
-    let scalar = 0x10000 + high * 1024 + low;
-    Piece {
-        scalar,
-        width: 4,
-        replaced: 0,
+        },
     }
 }
 
-// What the UTF-16 from a place on begins with.
-fn piece_at(s: &[u8], at: usize) -> Piece
-    requires { at + 2 ≤ length s.now }
-    ensures { First s.now at result }
+// What the UTF-16 in s begins with.
+fn first_piece(s: &[u8]) -> Piece
+    requires { 2 ≤ length s.now }
+    ensures { First s.now result }
 {
-    // below the surrogates the next unit is not looked at
-    let u = unit_at(s, at);
-    if u < 0xD800 {
+    let u = first_unit(s);
+    // behind a unit that is a scalar the next is not looked at
+    if let Some(scalar) = char::from_u32(u32::from(u)) {
         return Piece {
-            scalar: u,
+            scalar,
             width: 2,
             replaced: 0,
         };
     }
-    piece_of(u, unit_at(s, at + 2))
+    piece_of(u, first_unit(&s[2..]))
+}
+
+// The pieces of the UTF-16 that is left, from the front. An odd byte at the end is none.
+#[derive(Drop)]
+struct Pieces<'a>(&'a [u8]);
+
+impl<'a> Iterator for Pieces<'a> {
+    type Item = Piece;
+
+    ghost next_gives = { λ s r t. MatchOption r (length s.0.now < 2) (λ p. First s.0.now p × (t.0.now ≡ drop p.width s.0.now)) };
+
+    ghost remaining = { λ s. at_most (length s.0.now) };
+
+    fn next(&mut self) -> Option<Piece> {
+        if self.0.len() < 2 {
+            return None;
+        }
+        let p = first_piece(self.0);
+        self.0 = &self.0[p.width..];
+        Some(p)
+    }
 }
 
 // How many bytes of UTF-8 the UTF-16 in s makes, if there is room for them.
-pub fn measured(s: &[u8], room: usize) -> Written
+pub fn measured(s: &[u8], room: usize) -> Option<usize>
     ensures { result ≡ written room (utf8_of s.now) }
 {
-    let mut at: usize = 0;
-    let mut n: usize = 0;
-    while 2 <= s.len() - at {
-        let p = piece_at(s, at);
-        let w = width_of(p.scalar);
-        if room - n < w {
-            return Written::NoRoom;
-        }
-        n += w;
-        at += p.width;
+    let mut left = room;
+    for p in Pieces(s) {
+        left = left.checked_sub(p.scalar.len_utf8())?;
     }
-    Written::Bytes(n)
+    Some(room - left)
 }
 
 // Whether there is room for the UTF-8 of the UTF-16 in s. No byte makes more than two: only where the room is less is it measured.
+#[tactic(auto, using(crate::proofs::Units::twice))]
 fn has_room(s: &[u8], room: usize) -> bool
     ensures { result ≡ leb (length (utf8_of s.now)) room }
 {
     if s.len() <= room / 2 {
         return true;
     }
-    match measured(s, room) {
-        Written::Bytes(_) => true,
-        Written::NoRoom => false,
-    }
+    measured(s, room).is_some()
 }
 
 // Puts the UTF-8 of the UTF-16 in s at the start of out, and answers its length and how many units were replaced.
@@ -197,34 +177,24 @@ pub fn recode(s: &[u8], out: &mut [u8]) -> Recoded
     ensures bytes { (result.bytes ≡ length (utf8_of s.now)) × (out.new ≡ utf8_of s.now ++ drop result.bytes out.old) }
     ensures replaced { result.replaced ≡ unpaired (units s.now) }
 {
-    let mut at: usize = 0;
-    let mut n: usize = 0;
+    let mut bytes: usize = 0;
     let mut replaced: usize = 0;
-    while 2 <= s.len() - at {
-        let p = piece_at(s, at);
-        n = put_scalar(out, n, p.scalar);
+    for p in Pieces(s) {
+        bytes += put_scalar(&mut out[bytes..], p.scalar);
         replaced += p.replaced;
-        at += p.width;
     }
-    Recoded { bytes: n, replaced }
+    Recoded { bytes, replaced }
 }
 
 // Writes the UTF-8 of the UTF-16 in src to the start of out, if there is room for it, and reports the units that were replaced.
-pub fn decode_utf16(src: &[u8], out: &mut [u8]) -> Decoding
-    ensures written { Puts result.answer out.old out.new (utf8_of src.now) }
-    ensures replaced { result.replaced ≡ reported result.answer (unpaired (units src.now)) }
+pub fn decode_utf16(src: &[u8], out: &mut [u8]) -> Option<Recoded>
+    ensures written { Puts (bytes_of result) out.old out.new (utf8_of src.now) }
+    ensures replaced { IfSome result (λ r. r.replaced ≡ unpaired (units src.now)) }
 {
     if !has_room(src, out.len()) {
-        return Decoding {
-            answer: Written::NoRoom,
-            replaced: 0,
-        };
+        return None;
     }
-    let r = recode(src, out);
-    Decoding {
-        answer: Written::Bytes(r.bytes),
-        replaced: r.replaced,
-    }
+    Some(recode(src, out))
 }
 
 // What the definitions mean, in a contract so that it cannot be left out: UTF-16 becomes UTF-8.

@@ -4,11 +4,10 @@ use mathlib.Core.Bool.{false≢true}
 use mathlib.Core.Logic.{◌↔◌}
 use mathlib.Core.List.{List, [], ◌∷◌, ◌++◌}
 use Prim.Native.Nat.{ℕ, suc, ◌-◌, ◌≤◌}
+use Rattle.std.specs.Prelude.{Option, None, Some}
 use native.Mathlib.Omega.{arith}
 use lib.ListN.{length, drop}
-use Rattle.utf8.specs.declared.Front.{Front}
-use Rattle.utf8.specs.declared.Front.TheVariants.{IllFormed, Char}
-use Rattle.utf8.specs.Utf8.{Scalar, Scalars, Utf8, encode, encodes, front_in, Decoded, bad, text, behind, pursue, walk, decode}
+use Rattle.utf8.specs.Utf8.{Front, Scalar, Scalars, Utf8, encode, encodes, front_in, Decoded, bad, text, behind, front, pursue, walk, decode}
 use Rattle.utf8.proofs.Fronts.{encode_1, encode_2, encode_3, encode_4, by_length, found, Found, right}
 
 pub encode_length : (c : ℕ) → (1 ≤ length (encode c)) × (length (encode c) ≤ 4)
@@ -23,10 +22,10 @@ skip : (p r : List ℕ) → walk (length p) (p ++ r) ≡ walk 0 r
 skip [] r = refl
 skip (b ∷ p) r = skip p r
 
-pub walk_encode : (x : ℕ) (r : List ℕ) → Scalar x → walk 0 (encode x ++ r) ≡ behind x (walk 0 r)
+walk_encode : (x : ℕ) (r : List ℕ) → Scalar x → walk 0 (encode x ++ r) ≡ behind x (walk 0 r)
 walk_encode x r s = go (encode x) (encode_length x).0 (found x r s)
   where
-    go : (l : List ℕ) → 1 ≤ length l → Char x (length l) ≡ front_in (l ++ r) → walk 0 (l ++ r) ≡ behind x (walk 0 r)
+    go : (l : List ℕ) → 1 ≤ length l → front x (length l) ≡ front_in (l ++ r) → walk 0 (l ++ r) ≡ behind x (walk 0 r)
     go [] h e = absurd (omega arith)
     go (b ∷ l) h e =
         let k : suc (length l) - 1 ≡ length l = omega arith in
@@ -40,12 +39,8 @@ inverts (c ∷ cs) s = walk_encode c (encodes cs) s.0 ∙ ap (behind c) (inverts
 -- ---- from bytes to scalars and back
 
 -- what is found at the front is walked over
-pub onward : {l : List ℕ} {c w : ℕ} → Found l c w → walk 0 l ≡ behind c (walk 0 (drop w l))
+onward : {l : List ℕ} {c w : ℕ} → Found l c w → walk 0 l ≡ behind c (walk 0 (drop w l))
 onward {l} {c} {w} f = ap (walk 0) f.whole ∙ walk_encode c (drop w l) f.scalar
-
-pub walk_ill : (l : List ℕ) → 1 ≤ length l → front_in l ≡ IllFormed → walk 0 l ≡ bad
-walk_ill [] h e = absurd (omega arith)
-walk_ill (a ∷ l) h e = ap (pursue (λ k. walk k l)) e
 
 record Next (l cs : List ℕ) : Type 0 where
   c : ℕ
@@ -62,9 +57,9 @@ next a l cs e = go (front_in (a ∷ l)) refl e
     behind_is c f bad p q = absurd (false≢true cc)
     behind_is {w} c f (text ds) p q = record { c = c; w = w; ds = ds; is = f; rest = p; all = cc }
 
-    go : (f : Front) → front_in (a ∷ l) ≡ f → pursue (λ k. walk k l) f ≡ text cs → Next (a ∷ l) cs
-    go IllFormed p q = absurd (false≢true cc)
-    go (Char c w) p q = let f = right (a ∷ l) c w (omega arith) p in behind_is c f (walk 0 (drop w (a ∷ l))) refl (sym (onward f) ∙ e)
+    go : (f : Option Front) → front_in (a ∷ l) ≡ f → pursue (λ k. walk k l) f ≡ text cs → Next (a ∷ l) cs
+    go None p q = absurd (false≢true cc)
+    go (Some x) p q = let f = right (a ∷ l) x.scalar x.width (omega arith) p in behind_is x.scalar f (walk 0 (drop x.width (a ∷ l))) refl (sym (onward f) ∙ e)
 
 accepted : (cs bs : List ℕ) → walk 0 bs ≡ text cs → Utf8 bs cs
 unfolding encodes

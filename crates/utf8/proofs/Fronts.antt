@@ -1,18 +1,17 @@
 -- The scalar at the front of some bytes: those are its UTF-8, and so it is found there.
 use mathlib.Core.Path.{◌≡◌, refl, sym, ap, ◌∙◌}
 use mathlib.Core.Logic.{inl, inr, ⊎_elim}
-use mathlib.Core.Bool.{true, false, false≢true}
+use mathlib.Core.Bool.{true, false≢true}
 use mathlib.Core.List.{List, [], ◌∷◌, ◌++◌}
 use Prim.Native.Nat.{ℕ, ◌+◌, ◌-◌, ◌*◌, ◌/◌, ◌≤◌, ◌<◌}
-use native.Mathlib.Nat.{add-zero}
+use Rattle.std.specs.Prelude.{None}
 use native.Mathlib.Omega.{arith}
 use lib.Dec.{leb, ltb, eqb}
-use lib.ListN.{length, drop, get_or, length-append}
-use lib.Seq.{get_or-drop, drop-append_seam}
-use borrow.Author.Tests.{ltb-true, ltb-false, leb-true, leb-false, eqb-true, eqb-false, lt-ltb, le-ltb, ne_eqb}
+use lib.ListN.{length, drop, get_or}
+use lib.Seq.{drop-append_seam}
+use borrow.Author.Tests.{ltb-true, ltb-false, leb-true, leb-false, eqb-true, eqb-false, lt-ltb, le-ltb}
 use borrow.Table.Steps.{cases as by}
-use Rattle.utf8.specs.declared.Front.TheVariants.{IllFormed, Char}
-use Rattle.utf8.specs.Utf8.{Scalar, six, encode, low, high, second, follows, more, longer, front_of, front_in}
+use Rattle.utf8.specs.Utf8.{Front, Scalar, six, encode, low, high, second, follows, more, front, longer, front_of, front_in}
 use Rattle.utf8.proofs.Cases.{split, least, most, inside}
 
 -- ---- the four lengths
@@ -44,7 +43,7 @@ by_length x p q r s =
 -- ---- what `front_of` gives, by its tests
 
 module _ (a b c d : ℕ) where
-  front_1 : a < 0x80 → Char a 1 ≡ front_of a b c d
+  front_1 : a < 0x80 → front a 1 ≡ front_of a b c d
   unfolding front_of
   front_1 h = simp (lt-ltb _ _ h)
 
@@ -53,44 +52,14 @@ module _ (a b c d : ℕ) where
     unfolding front_of
     front_longer = let g' : 0x80 ≤ a = omega arith in simp (le-ltb _ _ g', le-ltb _ _ g, le-ltb _ _ h, s)
 
-    front_2 : (x : ℕ) → x ≡ more (a - 0xC0) b → a < 0xE0 → Char x 2 ≡ front_of a b c d
+    front_2 : (x : ℕ) → x ≡ more (a - 0xC0) b → a < 0xE0 → front x 2 ≡ front_of a b c d
     front_2 x e l = rw front_longer (simp (lt-ltb _ _ l, e))
 
-    front_3 : (v x : ℕ) → v ≡ more (a - 0xE0) b → x ≡ more v c → 0xE0 ≤ a → a < 0xF0 → follows c ≡ true → Char x 3 ≡ front_of a b c d
+    front_3 : (v x : ℕ) → v ≡ more (a - 0xE0) b → x ≡ more v c → 0xE0 ≤ a → a < 0xF0 → follows c ≡ true → front x 3 ≡ front_of a b c d
     front_3 v x f e l m t = rw front_longer (simp (le-ltb _ _ l, t, lt-ltb _ _ m, e, f))
 
-    front_4 : (u v x : ℕ) → u ≡ more (a - 0xF0) b → v ≡ more u c → x ≡ more v d → 0xF0 ≤ a → follows c ≡ true → follows d ≡ true → Char x 4 ≡ front_of a b c d
+    front_4 : (u v x : ℕ) → u ≡ more (a - 0xF0) b → v ≡ more u c → x ≡ more v d → 0xF0 ≤ a → follows c ≡ true → follows d ≡ true → front x 4 ≡ front_of a b c d
     front_4 u v x i f e m t k = let l : 0xE0 ≤ a = omega arith in rw front_longer (simp (le-ltb _ _ l, t, le-ltb _ _ m, k, e, f, i))
-
--- two bytes, whatever stands behind them
-module _ (a b : ℕ) (g : 0xC2 ≤ a) (h : a < 0xE0) where
-  second_2 : second a b ≡ follows b
-  second_2 =
-      let p : a ≡ 0xE0 → ⊥ = omega arith in
-      let q : a ≡ 0xF0 → ⊥ = omega arith in
-      let r : a ≡ 0xED → ⊥ = omega arith in
-      let t : a ≡ 0xF4 → ⊥ = omega arith in
-      simp (ne_eqb _ _ p, ne_eqb _ _ q, ne_eqb _ _ r, ne_eqb _ _ t)
-
-  pub two_ill : (c d : ℕ) → follows b ≡ false → IllFormed ≡ front_of a b c d
-  unfolding front_of
-  two_ill c d e =
-      let i : 0x80 ≤ a = omega arith in
-      let j : a ≤ 0xF4 = omega arith in
-      let k = second_2 ∙ e in
-      simp (le-ltb _ _ i, le-ltb _ _ g, le-ltb _ _ j, k)
-
-  pub two_char : (c d x : ℕ) → follows b ≡ true → x ≡ more (a - 0xC0) b → Char x 2 ≡ front_of a b c d
-  two_char c d x e f = front_2 a b c d g (omega arith) (second_2 ∙ e) x f h
-
--- a byte of the rest is one of the whole
-pub front_in_lem : (s : List ℕ) (at a b c d : ℕ) → a ≡ get_or s at 0 → b ≡ get_or s (at + 1) 0 → c ≡ get_or s (at + 2) 0 → d ≡ get_or s (at + 3) 0
-    → front_of a b c d ≡ front_in (drop at s)
-front_in_lem s at a b c d p q r t = cc (get_or-drop at s 0 0, get_or-drop at s 1 0, get_or-drop at s 2 0, get_or-drop at s 3 0, add-zero at)
-
--- a byte of ASCII, whatever stands behind it
-pub front_ascii : (s : List ℕ) (at a : ℕ) → a ≡ get_or s at 0 → a < 0x80 → Char a 1 ≡ front_in (drop at s)
-front_ascii s at a e h = front_1 a _ _ _ h ∙ front_in_lem s at a _ _ _ e refl refl refl
 
 -- ---- the second byte, by the first: in numbers, what Table 3-7 asks
 
@@ -130,28 +99,28 @@ trails n = inside 0x80 0xBF (six n) (omega arith) (omega arith)
 
 -- ---- a scalar is found at the front of its UTF-8
 
-pub found : (x : ℕ) (r : List ℕ) → Scalar x → Char x (length (encode x)) ≡ front_in (encode x ++ r)
+pub found : (x : ℕ) (r : List ℕ) → Scalar x → front x (length (encode x)) ≡ front_in (encode x ++ r)
 found x r s = by_length x one two three four
   where
-    at : (l : List ℕ) → encode x ≡ l → Char x (length l) ≡ front_in (l ++ r) → Char x (length (encode x)) ≡ front_in (encode x ++ r)
-    at l e f = ap (λ (l : List ℕ). Char x (length l)) e ∙ f ∙ ap (λ (l : List ℕ). front_in (l ++ r)) (sym e)
+    at : (l : List ℕ) → encode x ≡ l → front x (length l) ≡ front_in (l ++ r) → front x (length (encode x)) ≡ front_in (encode x ++ r)
+    at l e f = ap (λ (l : List ℕ). front x (length l)) e ∙ f ∙ ap (λ (l : List ℕ). front_in (l ++ r)) (sym e)
 
-    one : x < 0x80 → Char x (length (encode x)) ≡ front_in (encode x ++ r)
+    one : x < 0x80 → front x (length (encode x)) ≡ front_in (encode x ++ r)
     one h = at _ (encode_1 x h) (front_1 x _ _ _ h)
 
-    two : 0x80 ≤ x → x < 0x800 → Char x (length (encode x)) ≡ front_in (encode x ++ r)
+    two : 0x80 ≤ x → x < 0x800 → front x (length (encode x)) ≡ front_in (encode x ++ r)
     two g h =
         at _ (encode_2 x g h)
         (front_2 (0xC0 + x / 64) (six x) _ _ (omega arith) (omega arith) (second_any (0xC0 + x / 64) (six x) (omega arith) (omega arith)) x (omega arith) (omega arith))
 
-    three : 0x800 ≤ x → x < 0x10000 → Char x (length (encode x)) ≡ front_in (encode x ++ r)
+    three : 0x800 ≤ x → x < 0x10000 → front x (length (encode x)) ≡ front_in (encode x ++ r)
     three g h =
         at _ (encode_3 x g h)
         (front_3 (0xE0 + x / 64 / 64) (six (x / 64)) (six x) _ (omega arith) (omega arith)
         (⊎_elim (λ t. second_any (0xE0 + x / 64 / 64) (six (x / 64)) (omega arith) (omega arith)) (λ t. second_any (0xE0 + x / 64 / 64) (six (x / 64)) (omega arith) (omega arith)) s)
         (x / 64) x (omega arith) (omega arith) (omega arith) (omega arith) (trails x))
 
-    four : 0x10000 ≤ x → Char x (length (encode x)) ≡ front_in (encode x ++ r)
+    four : 0x10000 ≤ x → front x (length (encode x)) ≡ front_in (encode x ++ r)
     four g =
         let h : x < 0x110000 = ⊎_elim (λ t. omega arith) (λ t. t.1) s in
         at _ (encode_4 x g)
@@ -163,16 +132,12 @@ found x r s = by_length x one two three four
 
 pub record Found (l : List ℕ) (x w : ℕ) : Type 0 where
   pub scalar : Scalar x
-  pub wide : w ≡ length (encode x)
-  pub fits : w ≤ length l
   pub whole : l ≡ encode x ++ drop w l
 
 made : (x : ℕ) (p l : List ℕ) → Scalar x → encode x ≡ p → Found (p ++ l) x (length p)
 made x p l s e =
     record {
       scalar = s;
-      wide = sym (ap length e);
-      fits = omega (arith, length-append p l);
       whole = ap (λ (k : List ℕ). k ++ l) (sym e) ∙ ap (λ (k : List ℕ). encode x ++ k) (sym (drop-append_seam p l));
     }
 
@@ -215,16 +180,17 @@ module _ (a : ℕ) where
       let n : d ≡ six x = omega arith in
       made x (a ∷ b ∷ c ∷ d ∷ []) l (inr (omega arith, omega arith)) (cc (encode_4 x (omega arith)))
 
-  none : {l : List ℕ} (x w : ℕ) → IllFormed ≡ Char x w → Found l x w
+  none : {l : List ℕ} (x w : ℕ) → None ≡ front x w → Found l x w
   none x w e = absurd (false≢true cc)
 
-  told : {l : List ℕ} {v n x w : ℕ} → Char v n ≡ Char x w → Found l v n → Found l x w
+  told : {l : List ℕ} {v n x w : ℕ} → front v n ≡ front x w → Found l v n → Found l x w
   told {l} {v} {n} {x} {w} e f =
-      let p : v ≡ x = cc in
-      let q : n ≡ w = cc in
+      let r : ◌≡◌ {A = Front} (record { scalar = v; width = n }) (record { scalar = x; width = w }) = cc in
+      let p = ap (λ (k : Front). k.scalar) r in
+      let q = ap (λ (k : Front). k.width) r in
       rw (← p, ← q) f
 
-  right_of : (l : List ℕ) (x w : ℕ) → front_in (a ∷ l) ≡ Char x w → Found (a ∷ l) x w
+  right_of : (l : List ℕ) (x w : ℕ) → front_in (a ∷ l) ≡ front x w → Found (a ∷ l) x w
   unfolding front_of
   right_of l x w =
       let b = get_or l 0 0 in
@@ -247,6 +213,6 @@ module _ (a : ℕ) where
       (λ j. none x w))
       (λ i. none x w)
 
-pub right : (l : List ℕ) (x w : ℕ) → 1 ≤ length l → front_in l ≡ Char x w → Found l x w
+pub right : (l : List ℕ) (x w : ℕ) → 1 ≤ length l → front_in l ≡ front x w → Found l x w
 right [] x w h e = absurd (omega arith)
 right (a ∷ l) x w h e = right_of a l x w e

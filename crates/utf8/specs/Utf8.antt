@@ -1,7 +1,5 @@
 -- UTF-8 (the Unicode standard, 3.9).
-use Rattle.std.specs.Prelude.{◌≡◌, ◌⊎◌, Bool, cond, ◌&&◌, List, [], ◌∷◌, ◌++◌, ℕ, zero, suc, ◌+◌, ◌-◌, ◌*◌, ◌/◌, ◌%◌, ◌≤◌, ◌<◌, leb, ltb, eqb, get_or}
-use Rattle.utf8.specs.declared.Front.{Front}
-use Rattle.utf8.specs.declared.Front.TheVariants.{IllFormed, Char}
+use Rattle.std.specs.Prelude.{◌≡◌, ◌⊎◌, Bool, cond, ◌&&◌, List, [], ◌∷◌, ◌++◌, ℕ, zero, suc, ◌+◌, ◌-◌, ◌*◌, ◌/◌, ◌%◌, ◌≤◌, ◌<◌, leb, ltb, eqb, get_or, Option, None, Some}
 
 -- D76: a scalar value is any code point but a surrogate.
 abbrev pub Scalar : ℕ → Type 0
@@ -54,24 +52,32 @@ follows b = within 0x80 0xBF b
 abbrev pub more : ℕ → ℕ → ℕ
 more v b = v * 64 + b % 64
 
+-- a scalar at the front of some bytes, and how many of them it takes
+pub record Front : Type 0 where
+  pub scalar : ℕ
+  pub width : ℕ
+
+abbrev pub front : ℕ → ℕ → Option Front
+front c w = Some (record { scalar = c; width = w })
+
 -- a scalar of two, three or four bytes, whose second byte is right
-abbrev pub longer : ℕ → ℕ → ℕ → ℕ → Front
+abbrev pub longer : ℕ → ℕ → ℕ → ℕ → Option Front
 longer a b c d =
-    cond (ltb a 0xE0) (Char (more (a - 0xC0) b) 2)
+    cond (ltb a 0xE0) (front (more (a - 0xC0) b) 2)
     (cond (follows c)
-    (cond (ltb a 0xF0) (Char (more (more (a - 0xE0) b) c) 3)
-    (cond (follows d) (Char (more (more (more (a - 0xF0) b) c) d) 4) IllFormed))
-    IllFormed)
+    (cond (ltb a 0xF0) (front (more (more (a - 0xE0) b) c) 3)
+    (cond (follows d) (front (more (more (more (a - 0xF0) b) c) d) 4) None))
+    None)
 
 -- the scalar at the front of the bytes a, b, c, d, and how many it takes; 0 stands for a byte that is not there, and follows no other
-unfoldable pub front_of : ℕ → ℕ → ℕ → ℕ → Front
+unfoldable pub front_of : ℕ → ℕ → ℕ → ℕ → Option Front
 front_of a b c d =
-    cond (ltb a 0x80) (Char a 1)
-    (cond (ltb a 0xC2) IllFormed
-    (cond (ltb 0xF4 a) IllFormed
-    (cond (second a b) (longer a b c d) IllFormed)))
+    cond (ltb a 0x80) (front a 1)
+    (cond (ltb a 0xC2) None
+    (cond (ltb 0xF4 a) None
+    (cond (second a b) (longer a b c d) None)))
 
-abbrev pub front_in : List ℕ → Front
+abbrev pub front_in : List ℕ → Option Front
 front_in s = front_of (get_or s 0 0) (get_or s 1 0) (get_or s 2 0) (get_or s 3 0)
 
 pub data Decoded : Type 0 where
@@ -82,9 +88,9 @@ abbrev pub behind : ℕ → Decoded → Decoded
 behind c bad = bad
 behind c (text cs) = text (c ∷ cs)
 
-abbrev pub pursue : (ℕ → Decoded) → Front → Decoded
-pursue on IllFormed = bad
-pursue on (Char c w) = behind c (on (w - 1))
+abbrev pub pursue : (ℕ → Decoded) → Option Front → Decoded
+pursue on None = bad
+pursue on (Some f) = behind f.scalar (on (f.width - 1))
 
 -- the scalars behind the next k bytes
 abbrev pub walk : ℕ → List ℕ → Decoded

@@ -7,12 +7,10 @@ ghost use Rattle.floats.specs.Wholes.{doubles, flat};
 ghost use Rattle.streams.specs.Next.{sum_of, item_of, stepped, rule_by, answer_of};
 ghost use Rattle.uv.specs.Uv.{uv_made, uv_point, uv_begun, uv_scan, uv_left, uv_rule};
 
-use common::{Endian, le_u16, le_u32};
-use error::{Refusal, Stopped, cut};
-use floats::{f64_from_u16, f64_from_u32, minutes_of};
-use streams::{
-    ChemstationUvState, DeltaAt, Next, Points, Record, Scans, State, changed_by, delta_at,
-};
+use common::{Endian, Number};
+use error::{Refusal, Stopped, lacking};
+use floats::minutes_of;
+use streams::{ChemstationUvState, Given, Points, Record, Scans, State, delta_at};
 
 // Bytes of a scan's head: 4 that are passed over, time, start and end; then its step; then 8 more that are passed over.
 const RANGE: usize = 4 + 4 + 2 + 2;
@@ -22,7 +20,7 @@ const STEP: usize = RANGE + 2;
 const HEAD: usize = STEP + 8;
 
 // The record of a value, and the state after it with the scans that are then due.
-fn uv_given(st: ChemstationUvState, scans: Scans, value: f64, n: usize) -> Next
+fn uv_given(st: ChemstationUvState, scans: Scans, value: f64, n: usize) -> Result<Given, Stopped>
     requires { 0 < st.n_wvs_left.0 }
     ensures { answer_of result ≡ got (item_of (uv_made st scans) (flat doubles value)) n }
 {
@@ -35,30 +33,34 @@ fn uv_given(st: ChemstationUvState, scans: Scans, value: f64, n: usize) -> Next
         minutes: st.stored_time / 60000,
         leftover: st.stored_time % 60000,
     };
-    let points = st.n_wvs_left.0;
     let state = ChemstationUvState {
         n_scans_left: scans,
-        n_wvs_left: Points(points - 1),
-        cur_time: st.cur_time,
+        n_wvs_left: Points(st.n_wvs_left.0 - 1),
         cur_intensity: value,
         cur_wv,
-        wv_step: st.wv_step,
-        mult_correction: st.mult_correction,
-        stored_time: st.stored_time,
+        ..st
     };
-    Next::Given(record, State::Uv(state), n)
+    Ok(Given {
+        record,
+        state: State::Uv(state),
+        bytes: n,
+    })
 }
 
 // The point at a position, with the scans that are due after it.
-fn uv_point(st: ChemstationUvState, scans: Scans, s: &[u8], at: usize, last: bool) -> Next
+fn uv_point(
+    st: ChemstationUvState,
+    scans: Scans,
+    s: &[u8],
+    at: usize,
+    last: bool,
+) -> Result<Given, Stopped>
     requires nonzero { 0 < st.n_wvs_left.0 }
     requires at_in_bounds { at ≤ length s.now }
     ensures { answer_of result ≡ map_read (stepped (sum_of (State.Uv st))) (read_at last (uv_point st scans []) at s.now) }
 {
-    match delta_at(Endian::Little, s, at, last) {
-        DeltaAt::Read(d, n) => uv_given(st, scans, changed_by(st.cur_intensity, d), n),
-        DeltaAt::Stopped(z) => Next::Stopped(z),
-    }
+    let (d, n) = delta_at(Endian::Little, s, at, last)?;
+    uv_given(st, scans, d.applied_to(st.cur_intensity), n)
 }
 
 // A new scan, before its first point: a step behind it, with value 0.
@@ -73,48 +75,45 @@ fn uv_begun(
     requires step_nonzero { 0 < step }
     ensures { result ≡ uv_begun st time start end step }
 {
-    let n_scans_left = st.n_scans_left;
     let points = (end - start) / step;
-    let wv_step = f64_from_u16(step) / 20.0;
-    let cur_wv = f64_from_u16(start) / 20.0 - wv_step;
+    let wv_step = f64::from(step) / 20.0;
+    let cur_wv = f64::from(start) / 20.0 - wv_step;
     ChemstationUvState {
-        n_scans_left,
         n_wvs_left: Points(points as usize + 1),
-        cur_time: minutes_of(f64_from_u32(time)),
+        cur_time: minutes_of(f64::from(time)),
         cur_intensity: 0.0,
         cur_wv,
         wv_step,
-        mult_correction: st.mult_correction,
         stored_time: time,
+        ..st
     }
 }
 
 // A scan's head and its first point.
-fn uv_scan(st: ChemstationUvState, s: &[u8], last: bool) -> Next
+fn uv_scan(st: ChemstationUvState, s: &[u8], last: bool) -> Result<Given, Stopped>
     ensures { answer_of result ≡ map_read (stepped (sum_of (State.Uv st))) (read_at last (uv_scan st) 0 s.now) }
 {
     if s.len() < RANGE {
-        return Next::Stopped(cut(last));
+        return Err(lacking(last, false));
     }
-    let time = le_u32(s, 4);
-    let start = le_u16(s, 8);
-    let end = le_u16(s, 10);
+    let time = u32::le_at(s, 4);
+    let start = u16::le_at(s, 8);
+    let end = u16::le_at(s, 10);
     if start > end {
-        return Next::Stopped(Stopped::Refused(Refusal::UvStartAboveEnd));
+        return Err(Stopped::Refused(Refusal::UvStartAboveEnd));
     }
     if s.len() < STEP {
-        return Next::Stopped(cut(last));
+        return Err(lacking(last, false));
     }
-    let step = le_u16(s, 12);
+    let step = u16::le_at(s, 12);
     if step == 0 {
-        return Next::Stopped(Stopped::Refused(Refusal::UvStepZero));
+        return Err(Stopped::Refused(Refusal::UvStepZero));
     }
     if s.len() < HEAD {
-        return Next::Stopped(cut(last));
+        return Err(lacking(last, false));
     }
     let begun = uv_begun(st, time, start, end, step);
-    let scans = st.n_scans_left;
-    uv_point(begun, scans, s, HEAD, last)
+    uv_point(begun, st.n_scans_left, s, HEAD, last)
 }
 
 // The scans due after a later point of a scan: one whose first point is its last is never debited.
@@ -124,17 +123,18 @@ fn scans_left(st: ChemstationUvState) -> Scans
 {
     let scans = st.n_scans_left;
     if st.n_wvs_left.0 == 1 {
-        return Scans(scans.0 - 1);
+        Scans(scans.0 - 1)
+    } else {
+        scans
     }
-    scans
 }
 
 // The next record of UV.
-pub fn uv_next(st: ChemstationUvState, s: &[u8], last: bool) -> Next
+pub fn uv_next(st: ChemstationUvState, s: &[u8], last: bool) -> Result<Given, Stopped>
     ensures { answer_of result ≡ read last (rule_by (State.Uv st) (uv_rule st)) s.now }
 {
     if st.n_scans_left.0 == 0 {
-        return Next::Stopped(Stopped::Finished);
+        return Err(Stopped::Finished);
     }
     if st.n_wvs_left.0 == 0 {
         return uv_scan(st, s, last);

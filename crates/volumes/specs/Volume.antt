@@ -1,13 +1,10 @@
 -- The run date of a file, and whether it lies in a window of time (request 6).
-use Rattle.std.specs.Prelude.{◌≡◌, true, cond, ◌&&◌, List, ◌⊎◌, ℕ, ◌≤◌, ◌<◌, leb, ltb}
+use Rattle.std.specs.Prelude.{◌≡◌, true, cond, ◌&&◌, List, Option, None, Some, Result, Ok, Err, ◌⊎◌, ℕ, ◌≤◌, ◌<◌, leb, ltb}
 use Rattle.rules.specs.Rule.{Read, got, stops, read}
 use Rattle.error.specs.Number.{number_of}
 use Rattle.fetch.specs.Fetch.{fetch_rule, number_of_stop}
 use Rattle.dates.specs.Dates.{date_of}
-use Rattle.dates.specs.declared.Date.{Date}
-use Rattle.dates.specs.declared.Date.TheVariants.{Instant, NoDate}
-use Rattle.volumes.specs.declared.RunDate.{RunDate}
-use Rattle.volumes.specs.declared.RunDate.TheVariants as run
+use Rattle.error.specs.declared.Refusal.{Refusal}
 use Rattle.volumes.specs.declared.Placed.{Placed}
 use Rattle.volumes.specs.declared.Placed.TheVariants as place
 
@@ -19,9 +16,9 @@ pub data Told : Type 0 where
   no_date : Told
   refuse : ℕ → Told
 
-abbrev pub told : Date → Told
-told (Instant i) = instant i
-told NoDate = no_date
+abbrev pub told : Option ℕ → Told
+told (Some i) = instant i
+told None = no_date
 
 -- by what Fetch's rule reads
 abbrev pub told_by : Read (List ℕ) → Told
@@ -32,10 +29,9 @@ told_by (stops z) = refuse (number_of_stop z)
 unfoldable pub run_date : ℕ → List ℕ → Told
 run_date kind s = told_by (read true (fetch_rule kind 8) s)
 
-abbrev pub date_told : RunDate → Told
-date_told (run.Instant i) = instant i
-date_told run.NoDate = no_date
-date_told (run.Refused r) = refuse (number_of r)
+abbrev pub date_told : Result (Option ℕ) Refusal → Told
+date_told (Ok d) = told d
+date_told (Err r) = refuse (number_of r)
 
 -- ---- A window.
 
@@ -56,11 +52,14 @@ place_of start end (refuse c) = refused c
 unfoldable pub placed : ℕ → ℕ → ℕ → List ℕ → Place
 placed start end kind s = cond (ltb end start) (refused 19) (place_of start end (run_date kind s))
 
-abbrev pub place_told : Placed → Place
-place_told place.Inside = inside
-place_told place.Outside = outside
-place_told place.Undated = undated
-place_told (place.Refused r) = refused (number_of r)
+abbrev pub where_told : Placed → Place
+where_told place.Inside = inside
+where_told place.Outside = outside
+where_told place.Undated = undated
+
+abbrev pub place_told : Result Placed Refusal → Place
+place_told (Ok p) = where_told p
+place_told (Err r) = refused (number_of r)
 
 -- ---- The laws.
 

@@ -3,27 +3,14 @@ use mathlib.Core.Path.{◌≡◌, sym, ap, ◌∙◌}
 use mathlib.Core.Bool.{false≢true}
 use mathlib.Core.List.{List, ◌++◌}
 use Prim.Native.Nat.{ℕ, ◌+◌, ◌≤◌, ◌<◌}
-use native.Mathlib.Nat.{zero-add}
-use native.Mathlib.Numerals.{add-one}
 use native.Mathlib.Omega.{arith}
 use lib.Dec.{leb}
-use lib.ListN.{length, take, drop, set, get_or}
-use lib.Seq.{paste, paste-suc, take-length, take_at, drop_at, drop-drop}
+use lib.ListN.{length, take, drop}
+use lib.Seq.{paste, take-length, take_at, drop_at, drop-drop}
 use borrow.Author.Tests.{le-leb, lt-leb, leb-true, leb-false}
 use borrow.Table.Steps.{cases as by}
-use Rattle.written.specs.declared.Written.TheVariants.{Bytes, NoRoom}
-use Rattle.written.specs.Written.{written, Puts}
-
--- one byte more
-pub paste_on : (d s new : List ℕ) (at i : ℕ) → new ≡ paste d at s i → at + i < length d → i < length s → set new (at + i) (get_or s i 0) ≡ paste d at s (i + 1)
-paste_on d s new at i e g h = rw add-one (ap (λ (l : List ℕ). set l (at + i) (get_or s i 0)) e ∙ paste-suc d at s i 0 g h)
-
--- the front of b is l
-pub paste_front : (d b l : List ℕ) (at : ℕ) → take (length l) b ≡ l → paste d at b (length l) ≡ paste d at l (length l)
-paste_front d b l at e = ap (λ (k : List ℕ). take at d ++ k ++ drop (at + length l) d) (e ∙ sym (take-length l))
-
-pub paste_start : (d l : List ℕ) → paste d 0 l (length l) ≡ l ++ drop (length l) d
-paste_start d l = rw (zero-add (length l)) (ap (λ (k : List ℕ). k ++ drop (length l) d) (take-length l))
+use Rattle.std.specs.Prelude.{None, Some}
+use Rattle.written.specs.Written.{written}
 
 -- l behind what is there already
 pub paste_next : (d done l : List ℕ) (n : ℕ) → n ≡ length done → paste (done ++ drop n d) n l (length l) ≡ (done ++ l) ++ drop (n + length l) d
@@ -35,30 +22,24 @@ paste_next d done l n e =
 
 -- ---- the whole text, or nothing
 
-pub puts : (old new text : List ℕ) (n : ℕ) → n ≡ length text → length text ≤ length old → new ≡ text ++ drop n old → Puts (Bytes n) old new text
-puts old new text n e h p = rw e (record { answer = simp (le-leb _ _ h); holds = simp (le-leb _ _ h) (p ∙ ap (λ (k : ℕ). text ++ drop k old) e) })
-
-pub refuses : (old text : List ℕ) → length old < length text → Puts NoRoom old old text
-refuses old text h = record { answer = simp (lt-leb _ _ h); holds = simp (lt-leb _ _ h) }
-
 module _ (room : ℕ) (text : List ℕ) where
-  pub fills : (n : ℕ) → n ≡ length text → n ≤ room → Bytes n ≡ written room text
+  pub fills : (n : ℕ) → n ≡ length text → n ≤ room → Some n ≡ written room text
   fills n e h = let k : length text ≤ room = omega arith in simp (le-leb _ _ k, e)
 
-  pub overflows : room < length text → NoRoom ≡ written room text
+  pub overflows : room < length text → None ≡ written room text
   overflows h = simp (lt-leb _ _ h)
 
-  pub room_for : (n : ℕ) → Bytes n ≡ written room text → length text ≤ room
+  pub room_for : (n : ℕ) → Some n ≡ written room text → length text ≤ room
   room_for n e =
       by (leb (length text) room) (λ t. leb-true _ _ t)
-      λ t. let f : Bytes n ≡ NoRoom = simp t at e in absurd (false≢true cc)
+      λ t. let f : Some n ≡ None = simp t at e in absurd (false≢true cc)
 
-  pub length_for : (n : ℕ) → Bytes n ≡ written room text → n ≡ length text
+  pub length_for : (n : ℕ) → Some n ≡ written room text → n ≡ length text
   length_for n e =
-      by (leb (length text) room) (λ t. let f : Bytes n ≡ Bytes (length text) = simp t at e in cc)
-      λ t. let f : Bytes n ≡ NoRoom = simp t at e in absurd (false≢true cc)
+      by (leb (length text) room) (λ t. let f : Some n ≡ Some (length text) = simp t at e in cc)
+      λ t. let f : Some n ≡ None = simp t at e in absurd (false≢true cc)
 
-  pub no_room : NoRoom ≡ written room text → room < length text
+  pub no_room : None ≡ written room text → room < length text
   no_room e =
-      by (leb (length text) room) (λ t. let f : NoRoom ≡ Bytes (length text) = simp t at e in absurd (false≢true cc))
+      by (leb (length text) room) (λ t. let f : None ≡ Some (length text) = simp t at e in absurd (false≢true cc))
       λ t. leb-false _ _ t

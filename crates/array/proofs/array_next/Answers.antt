@@ -6,23 +6,23 @@ use Rattle.array.specs.Array.{stored}
 use Rattle.array.proofs.ArrayLaws.{array_none, array_cut, array_gives}
 use Rattle.array.proofs.array_next.Goals as goal
 
-pub returns-then-scans-eq0 : goal.returns-then-scans-eq0
-returns-then-scans-eq0 c = sym (array_none c.args.st c.args.last c.args.s.now c.if-scans-eq0.true)
+pub returns-then-st-eq0 : goal.returns-then-st-eq0
+returns-then-st-eq0 c = sym (array_none c.args.st c.args.last c.args.s.now c.if-st-eq0.true)
 
 pub returns-then-s-lt4 : goal.returns-then-s-lt4
 returns-then-s-lt4 c =
-    ap stops c.cut.ensures ∙ sym (array_cut c.args.st c.args.last c.args.s.now 4 _ c.if-scans-eq0.false (ap stored c.in-Float32Array.is) (omega arith))
+    ap stops c.lacking.ensures ∙ sym (array_cut c.args.st c.args.last c.args.s.now 4 _ c.if-st-eq0.false (ap stored c.in-Float32Array.is) (omega arith))
 
 pub returns-then-s-lt8 : goal.returns-then-s-lt8
 returns-then-s-lt8 c =
-    ap stops c.cut-then-s-lt8.ensures ∙ sym (array_cut c.args.st c.args.last c.args.s.now 8 _ c.if-scans-eq0.false (ap stored c.in-Float64Array.is) (omega arith))
+    ap stops c.lacking-then-s-lt8.ensures ∙ sym (array_cut c.args.st c.args.last c.args.s.now 8 _ c.if-st-eq0.false (ap stored c.in-Float64Array.is) (omega arith))
 
 pub returns-else-s-lt4 : goal.returns-else-s-lt4
 returns-else-s-lt4 c =
-    rw (c.array_given.ensures, c.f64_from_f32_bits.ensures, c.le_u32.ensures)
-    (sym (array_gives c.args.st c.args.last c.args.s.now 4 _ c.if-scans-eq0.false (ap stored c.in-Float32Array.is) (omega arith)))
+    rw (c.array_given.ensures, c.from_pattern.ensures, c.le_at.ensures)
+    (sym (array_gives c.args.st c.args.last c.args.s.now 4 _ c.if-st-eq0.false (ap stored c.in-Float32Array.is) (omega arith)))
 
 pub returns-else-s-lt8 : goal.returns-else-s-lt8
 returns-else-s-lt8 c =
-    rw (c.array_given-in-Float64Array.ensures, c.f64_from_bits.ensures, c.le_u64.ensures)
-    (sym (array_gives c.args.st c.args.last c.args.s.now 8 _ c.if-scans-eq0.false (ap stored c.in-Float64Array.is) (omega arith)))
+    rw (c.array_given-in-Float64Array.ensures, c.from_pattern-in-Float64Array.ensures, c.le_at-in-Float64Array.ensures)
+    (sym (array_gives c.args.st c.args.last c.args.s.now 8 _ c.if-st-eq0.false (ap stored c.in-Float64Array.is) (omega arith)))

@@ -1,16 +1,11 @@
--- The record is row i, or there is none.
-use mathlib.Core.Path.{refl, sym, ap, ◌∙◌}
+-- The record is row i.
+use mathlib.Core.Path.{sym, ap, ◌∙◌}
 use Rattle.streams.specs.Next.{answer_of}
-use Rattle.reader.specs.Columns.{columns}
-use Rattle.calls.proofs.Rows.{no_rows, given_row}
+use Rattle.reader.specs.Columns.{held}
+use Rattle.calls.proofs.RowLaws.{given_row}
 use Rattle.calls.proofs.next_row.Goals as goal
 
-pub returns-in-Stopped : goal.returns-in-Stopped
-returns-in-Stopped c =
-    let q = sym c.next_record.ensures ∙ ap answer_of c.in-Stopped.is in
-    rw q (record { count = refl; consumed = refl; state = refl; closing = refl; columns = no_rows c.args.i (columns c.args.time.now c.args.axis.now c.args.unscaled.now c.args.scaled.now c.args.minutes.now c.args.leftover.now) })
-
-pub returns-in-Given : goal.returns-in-Given
-returns-in-Given c =
-    let q = sym c.next_record.ensures ∙ ap answer_of c.in-Given.is in
-    rw c.row_of-row.ensures (given_row c.args.st c.args.s.now c.args.i (columns c.args.time.now c.args.axis.now c.args.unscaled.now c.args.scaled.now c.args.minutes.now c.args.leftover.now) c.requires _ _ _ q)
+pub returns-in-Ok-clause-gives : goal.returns-in-Ok-clause-gives
+returns-in-Ok-clause-gives c =
+    let q = sym c.next_record.ensures ∙ ap answer_of c.in-Ok.is in
+    rw (c.put.ensures.held, c.into.ensures) (given_row c.args.st c.args.s.now c.args.i (held c.args.columns.now) c.requires _ _ _ q)

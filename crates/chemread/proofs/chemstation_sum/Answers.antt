@@ -1,23 +1,25 @@
--- By the case of the total. A signed number is read back from its bits.
-use mir.Syntax.{w64}
-use mathlib.Core.Path.{refl, sym, ap, ◌∙◌}
-use mir.Facts.{to_z-of_z}
+-- By the case of the total.
+use Rattle.std.proofs.Common.{◌≡◌, sym, refl, ◌∙◌, ap, rules, arith, ℤ, w64, to_z, of_z, Some, Ok, Err}
+use Rattle.std.proofs.lemmas.Grind.{common_steps}
+use Rattle.std.proofs.lemmas.Int.{to_z-of_z}
 use Rattle.sums.specs.Sums.{total_from}
-use Rattle.sums.specs.declared.Total.TheVariants.{Amount}
 use Rattle.chemread.proofs.Calls.{sums_into}
 use Rattle.chemread.proofs.chemstation_sum.Goals as goal
 
-pub returns-in-Amount : goal.returns-in-Amount
-returns-in-Amount c =
-    let from = ap (λ z. total_from (Amount z) c.args.values.now) (to_z-of_z {w = w64} record { sfits = c.before-1.given }) in
-    sums_into (sym c.in-Amount.is ∙ c.total_from.ensures ∙ from) record { answer = refl; memory = to_z-of_z {w = w64} record { sfits = c.in-Amount.known_told-1-own.given.0.1 } }
+pub returns-in-Some-Ok : goal.returns-in-Some-Ok
+returns-in-Some-Ok c =
+    let is : c.total_from.result ≡ Some (Ok c.in-Some-Ok.n) = grind (arith, common_steps) in
+    let before : to_z w64 (of_z w64 c.args.sum.now) ≡ c.args.sum.now = search rules in
+    let n : to_z w64 (of_z w64 c.in-Some-Ok.n) ≡ c.in-Some-Ok.n = search rules in
+    sums_into (sym is ∙ c.total_from.ensures ∙ ap (λ z. total_from (Some (Ok z)) c.args.values.now) before) record { answer = refl; memory = n }
 
-pub returns-in-Absent : goal.returns-in-Absent
-returns-in-Absent c =
-    let from = ap (λ z. total_from (Amount z) c.args.values.now) (to_z-of_z {w = w64} record { sfits = c.before-1.given }) in
-    sums_into (sym c.in-Absent.is ∙ c.total_from.ensures ∙ from) record { answer = refl; memory = refl }
+pub returns-in-None : goal.returns-in-None
+returns-in-None c =
+    let before : to_z w64 (of_z w64 c.args.sum.now) ≡ c.args.sum.now = search rules in
+    sums_into (sym c.in-None.is ∙ c.total_from.ensures ∙ ap (λ z. total_from (Some (Ok z)) c.args.values.now) before) record { answer = refl; memory = refl }
 
-pub returns-in-Refused : goal.returns-in-Refused
-returns-in-Refused c =
-    let from = ap (λ z. total_from (Amount z) c.args.values.now) (to_z-of_z {w = w64} record { sfits = c.before-1.given }) in
-    sums_into (sym c.in-Refused.is ∙ c.total_from.ensures ∙ from) record { answer = c.number_of.ensures; memory = refl }
+pub returns-in-Some-Err : goal.returns-in-Some-Err
+returns-in-Some-Err c =
+    let is : c.total_from.result ≡ Some (Err c.in-Some-Err.r) = grind (arith, common_steps) in
+    let before : to_z w64 (of_z w64 c.args.sum.now) ≡ c.args.sum.now = search rules in
+    sums_into (sym is ∙ c.total_from.ensures ∙ ap (λ z. total_from (Some (Ok z)) c.args.values.now) before) record { answer = search rules; memory = refl }

@@ -2,9 +2,8 @@
 use Rattle.chemread.proofs.Calls.{fetches_into}
 use Rattle.chemread.proofs.chemstation_text.Goals as goal
 
-pub returns-in-Refused : goal.returns-in-Refused
-returns-in-Refused c =
-    record { text = rw c.number_of.ensures (fetches_into _ _ _ _ _ _ c.fetch_text-t.ensures.text c.in-Refused.is); count = c.fetch_text-t.ensures.replaced }
+pub returns-in-Err : goal.returns-in-Err
+returns-in-Err c = record { text = rw c.from.ensures (fetches_into _ c.in-Err.ensures.text); count = c.in-Err.ensures.replaced }
 
-pub returns-in-Text : goal.returns-in-Text
-returns-in-Text c = record { text = fetches_into _ _ _ _ _ _ c.fetch_text-t.ensures.text c.in-Text.is; count = c.fetch_text-t.ensures.replaced }
+pub returns-in-Ok : goal.returns-in-Ok
+returns-in-Ok c = record { text = fetches_into _ c.in-Ok.ensures.text; count = c.in-Ok.ensures.replaced }

@@ -2,9 +2,8 @@
 use Rattle.chemread.proofs.Calls.{texts_into}
 use Rattle.chemread.proofs.chemstation_texts.Goals as goal
 
-pub returns-in-Refused : goal.returns-in-Refused
-returns-in-Refused c =
-    record { texts = rw c.number_of.ensures (texts_into _ _ _ _ c.fetch_texts-t.ensures.texts c.in-Refused.is); counts = c.fetch_texts-t.ensures.replaced }
+pub returns-in-Err : goal.returns-in-Err
+returns-in-Err c = record { texts = rw c.from.ensures (texts_into c.in-Err.ensures.texts); counts = c.in-Err.ensures.replaced }
 
-pub returns-in-Text : goal.returns-in-Text
-returns-in-Text c = record { texts = texts_into _ _ _ _ c.fetch_texts-t.ensures.texts c.in-Text.is; counts = c.fetch_texts-t.ensures.replaced }
+pub returns-in-Ok : goal.returns-in-Ok
+returns-in-Ok c = record { texts = texts_into c.in-Ok.ensures.texts; counts = c.in-Ok.ensures.replaced }

@@ -2,10 +2,10 @@
 use Rattle.chemread.proofs.Calls.{opens_into}
 use Rattle.chemread.proofs.open_into.Goals as goal
 
-pub returns-in-Stopped : goal.returns-in-Stopped
-returns-in-Stopped c = rw c.stop_number.ensures (opens_into _ _ c.open_by-o.ensures c.in-Stopped.is)
+pub returns-in-Err : goal.returns-in-Err
+returns-in-Err c = rw c.stop_number.ensures (opens_into _ _ c.open_by.ensures c.in-Err.is)
 
-pub returns-in-Run : goal.returns-in-Run
-returns-in-Run c =
-    rw (c.header_of.ensures, c.corrections_of.ensures, c.numbers_of.ensures, c.counts_of.ensures, c.stored_of.ensures, c.reading_of.ensures)
-    (opens_into _ _ c.open_by-o.ensures c.in-Run.is)
+pub returns-in-Ok : goal.returns-in-Ok
+returns-in-Ok c =
+    rw (c.header_of.ensures, c.corrections_of.ensures, c.from-stored.ensures)
+    (opens_into _ _ c.open_by.ensures c.in-Ok.is)

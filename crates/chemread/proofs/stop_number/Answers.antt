@@ -4,4 +4,4 @@ use Rattle.error.specs.Number.{stop_of, stop_number}
 use Rattle.chemread.proofs.stop_number.Goals as goal
 
 pub returns-in-Refused : goal.returns-in-Refused
-returns-in-Refused c = c.number_of.ensures ∙ sym (ap (λ z. stop_number (stop_of z)) c.in-Refused.is)
+returns-in-Refused c = c.from.ensures ∙ sym (ap (λ z. stop_number (stop_of z)) c.in-Refused.is)

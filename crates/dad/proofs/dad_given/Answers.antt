@@ -5,4 +5,4 @@ use Rattle.dad.proofs.dad_given.Goals as goal
 pub returns : goal.returns
 unfolding of_int of_bits
 returns c =
-    rw (c.minutes_of.ensures, c.saturating_sub-bytes.ensures, c.delta_width.ensures, c.changed_by-value.ensures)
+    rw (c.minutes_of.ensures, c.saturating_sub-bytes.ensures, c.delta_width.ensures, c.applied_to-value.ensures)

@@ -7,19 +7,19 @@ use Rattle.dad.proofs.DadLaws.{dad_type_cut, dad_other, dad_head_cut, dad_none, 
 use Rattle.dad.proofs.dad_scan.Goals as goal
 
 pub returns-then-s-lt-TYPE : goal.returns-then-s-lt-TYPE
-returns-then-s-lt-TYPE c = rw (c.cut.ensures, dad_type_cut c.args.st c.args.last c.args.s.now (omega arith))
+returns-then-s-lt-TYPE c = rw (c.lacking.ensures, dad_type_cut c.args.st c.args.last c.args.s.now (omega arith))
 
-pub returns-then-le_u16-ne67 : goal.returns-then-le_u16-ne67
-returns-then-le_u16-ne67 c =
-    sym (dad_other c.args.st c.args.last c.args.s.now c.le_u16.ensures c.if-le_u16-ne67.true (omega arith))
+pub returns-then-le_at-ne67 : goal.returns-then-le_at-ne67
+returns-then-le_at-ne67 c =
+    sym (dad_other c.args.st c.args.last c.args.s.now c.le_at.ensures c.if-le_at-ne67.true (omega arith))
 
 pub returns-then-s-lt-HEAD : goal.returns-then-s-lt-HEAD
 returns-then-s-lt-HEAD c =
-    rw (c.cut-then-s-lt-HEAD.ensures, dad_head_cut c.args.st c.args.last c.args.s.now c.le_u16.ensures c.if-le_u16-ne67.false (omega arith) (omega arith))
+    rw (c.lacking-then-s-lt-HEAD.ensures, dad_head_cut c.args.st c.args.last c.args.s.now c.le_at.ensures c.if-le_at-ne67.false (omega arith) (omega arith))
 
 pub returns-then-bytes-eq0 : goal.returns-then-bytes-eq0
 returns-then-bytes-eq0 c =
-    sym (dad_none c.args.st c.args.last c.args.s.now c.le_u16.ensures c.if-le_u16-ne67.false c.le_u16-2.ensures c.saturating_sub-bytes.ensures (omega arith) c.if-bytes-eq0.true)
+    sym (dad_none c.args.st c.args.last c.args.s.now c.le_at.ensures c.if-le_at-ne67.false c.le_at-2.ensures c.saturating_sub-bytes.ensures (omega arith) c.if-bytes-eq0.true)
 
 zero : of_bits binary64 0 ≡ double 0
 unfolding of_int of_bits
@@ -27,5 +27,5 @@ zero = refl
 
 pub returns : goal.returns
 returns c =
-    rw (c.dad_point.ensures, zero, c.f64_from_u16-2.ensures, c.le_u16-4.ensures, c.f64_from_u16.ensures, c.le_u16-3.ensures, c.f64_from_u32.ensures, c.le_u32-stored_time.ensures)
-    (sym (dad_first c.args.st c.args.last c.args.s.now c.le_u16.ensures c.if-le_u16-ne67.false c.le_u16-2.ensures c.saturating_sub-bytes.ensures (omega arith) c.if-bytes-eq0.false))
+    rw (c.dad_point.ensures, zero, c.from-3.ensures, c.le_at-4.ensures, c.from-2.ensures, c.le_at-3.ensures, c.from.ensures, c.le_at-stored_time.ensures)
+    (sym (dad_first c.args.st c.args.last c.args.s.now c.le_at.ensures c.if-le_at-ne67.false c.le_at-2.ensures c.saturating_sub-bytes.ensures (omega arith) c.if-bytes-eq0.false))

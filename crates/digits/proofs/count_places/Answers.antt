@@ -1,21 +1,14 @@
--- Each turn takes a digit off.
-use mathlib.Core.Path.{sym}
-use native.Mathlib.Nat.{zero-add}
-use native.Mathlib.Omega.{arith}
-use Rattle.digits.proofs.Digits.{counting_turn, one_place}
+-- By the power of ten below it; 0 has one place.
+use Rattle.std.proofs.Common.{refl, sym, ap, ◌∙◌, add-one, arith}
+use Rattle.digits.specs.Numbers.{places}
+use Rattle.digits.proofs.Digits.{places_between}
 use Rattle.digits.proofs.count_places.Goals as goal
 
-pub loop-rest-init : goal.loop-rest-init
-loop-rest-init c = record { low = omega arith; small = omega arith; counted = sym (zero-add _) }
+pub returns-in-Some : goal.returns-in-Some
+returns-in-Some c =
+    let k = c.in-Some.k in
+    let l = c.in-Some.ensures in
+    (add-one k ∙ places_between 19 k c.args.n (omega arith) l.power_le l.next_power_gt, omega arith)
 
-pub overflow_sub-others : goal.overflow_sub-others
-overflow_sub-others c = (counting_turn _ c.loop-rest-test.true c.loop-rest.invariant).0
-
-pub loop-rest-smaller : goal.loop-rest-smaller
-loop-rest-smaller c = omega (arith, overflow_sub-others c)
-
-pub loop-rest-preserved : goal.loop-rest-preserved
-loop-rest-preserved c = (counting_turn _ c.loop-rest-test.true c.loop-rest.invariant).1
-
-pub returns : goal.returns
-returns c = (omega (arith, c.loop-rest.invariant.counted, c.loop-rest.invariant.low, one_place c.loop-rest.others c.loop-rest.rest c.loop-rest-test.false), omega arith)
+pub returns-in-None : goal.returns-in-None
+returns-in-None c = (ap (places 19) (sym c.in-None.ensures.none), omega arith)

@@ -1,51 +1,35 @@
 -- The kind, the number, then the header; and the text of a header that was opened.
-use mathlib.Core.Path.{refl, sym, ap, ◌∙◌}
-use native.Mathlib.Omega.{arith}
-use lib.Seq.{length-take-le}
-use Rattle.rules.specs.Rule.{map_read}
-use Rattle.utf8.proofs.Cases.{yes, no, least, most}
-use Rattle.metadata.proofs.HeaderReads.{read_stopped, never_finished, read_opened, fits}
-use Rattle.fetch.specs.Fetch.{outcome_of, replaced_by, passed_on}
-use Rattle.fetch.proofs.Fetches.{fetch_unknown, fetch_no_text, fetch_opens, answers_text, passes_on, passes_refusal}
+use Rattle.std.proofs.Common.{◌≡◌, ◌≤◌, ℕ, List, ◌&&◌, leb, true, false, refl, arith}
+use Rattle.std.proofs.lemmas.Grind.{common_steps}
+use Rattle.std.proofs.lemmas.Result.{err_from_is_err_and}
+use Rattle.agilent.specs.Header.{known}
+use Rattle.fetch.proofs.Fetches.{fetch_unknown, fetch_no_text, refused_with, opening_refused, text_written}
 use Rattle.fetch.proofs.fetch_text.Goals as goal
 
-pub returns-then-not-in_range : goal.returns-then-not-in_range
-returns-then-not-in_range c = record { text = (passes_refusal _ _ _ _ _ c.refused.ensures (fetch_unknown _ _ _ (no c.in_range.ensures c.if-not-in_range.true-raw)) refl).0; replaced = (passes_refusal _ _ _ _ _ c.refused.ensures (fetch_unknown _ _ _ (no c.in_range.ensures c.if-not-in_range.true-raw)) refl).1 }
+pub returns-then-not-contains : goal.returns-then-not-contains
+returns-then-not-contains c =
+    let k : known c.args.kind ≡ false = grind (arith, common_steps) in
+    let t = refused_with c.args.kind c.args.number c.args.s.now c.args.out.now (fetch_unknown c.args.kind c.args.number c.args.s.now k) refl in
+    record { text = t.0; replaced = t.1 }
 
-pub returns-then-not-in_range-2 : goal.returns-then-not-in_range-2
-returns-then-not-in_range-2 c = record { text = (passes_refusal _ _ _ _ _ c.refused-then-not-in_range-2.ensures (fetch_no_text _ _ _ (yes c.in_range.ensures c.if-not-in_range.false-raw) (no c.in_range-2.ensures c.if-not-in_range-2.true-raw)) refl).0; replaced = (passes_refusal _ _ _ _ _ c.refused-then-not-in_range-2.ensures (fetch_no_text _ _ _ (yes c.in_range.ensures c.if-not-in_range.false-raw) (no c.in_range-2.ensures c.if-not-in_range-2.true-raw)) refl).1 }
+pub returns-then-not-contains-2 : goal.returns-then-not-contains-2
+returns-then-not-contains-2 c =
+    let k : known c.args.kind ≡ true = grind (arith, common_steps) in
+    let i : (leb 1 c.args.number && leb c.args.number 8) ≡ false = grind (arith, common_steps) in
+    let t = refused_with c.args.kind c.args.number c.args.s.now c.args.out.now (fetch_no_text c.args.kind c.args.number c.args.s.now k i) refl in
+    record { text = t.0; replaced = t.1 }
 
-pub refusal_of-requires : goal.refusal_of-requires
-refusal_of-requires c = never_finished _ _ _ _ c.open_header-o.ensures c.in-Stopped.is
+pub returns-in_err-header : goal.returns-in_err-header
+returns-in_err-header c =
+    let k : known c.args.kind ≡ true = grind (arith, common_steps) in
+    let i : (leb 1 c.args.number && leb c.args.number 8) ≡ true = grind (arith, common_steps) in
+    let p = err_from_is_err_and c.from_residual.result c.from_residual.ensures.1 in
+    let t = opening_refused c.args.kind c.args.number c.args.s.now c.args.out.now k i c.in_err-header.ensures.refused in
+    rw (p.1, p.2) (record { text = t.0; replaced = t.1 })
 
-pub overflow_sub-k : goal.overflow_sub-k
-overflow_sub-k c = omega (arith, least 1 8 c.args.number (yes c.in_range-2.ensures c.if-not-in_range-2.false-raw))
-
-pub slice_bounds-fetch_from-end : goal.slice_bounds-fetch_from-end
-slice_bounds-fetch_from-end c = sym (length-take-le _ _ (fits _ _ _ _ c.open_header-o.ensures c.in-Header.is).1)
-
-pub fetch_from-requires : goal.fetch_from-requires
-fetch_from-requires c =
-    let n = c.args.number in
-    (omega (arith, most 1 8 n (yes c.in_range-2.ensures c.if-not-in_range-2.false-raw)), (fits _ _ _ _ c.open_header-o.ensures c.in-Header.is).0.described)
-
-pub returns-in-Stopped : goal.returns-in-Stopped
-returns-in-Stopped c = record {
-  text = (passes_refusal _ _ _ _ _ c.refused-in-Stopped.ensures
-      (fetch_opens _ _ _ (yes c.in_range.ensures c.if-not-in_range.false-raw) (yes c.in_range-2.ensures c.if-not-in_range-2.false-raw)
-      ∙ ap (map_read _) (read_stopped _ _ _ _ c.open_header-o.ensures c.in-Stopped.is))
-      c.refusal_of.ensures).0;
-  replaced = (passes_refusal _ _ _ _ _ c.refused-in-Stopped.ensures
-      (fetch_opens _ _ _ (yes c.in_range.ensures c.if-not-in_range.false-raw) (yes c.in_range-2.ensures c.if-not-in_range-2.false-raw)
-      ∙ ap (map_read _) (read_stopped _ _ _ _ c.open_header-o.ensures c.in-Stopped.is))
-      c.refusal_of.ensures).1;
-}
-
-pub returns-in-Header : goal.returns-in-Header
-returns-in-Header c =
-    let o = read_opened _ _ _ _ c.open_header-o.ensures c.in-Header.is in
-    let t =
-    answers_text
-    (fetch_opens _ _ _ (yes c.in_range.ensures c.if-not-in_range.false-raw) (yes c.in_range-2.ensures c.if-not-in_range-2.false-raw) ∙ ap (map_read _) o)
-    c.fetch_from.ensures.text in
-    record { text = t; replaced = passes_on c.args.kind c.args.number c.args.s.now c.fetch_from.result.answer _ t (c.fetch_from.ensures.replaced ∙ sym (ap (λ r. passed_on (outcome_of c.fetch_from.result.answer) (replaced_by c.args.number r)) o)) }
+pub returns : goal.returns
+returns c =
+    let k : known c.args.kind ≡ true = grind (arith, common_steps) in
+    let i : (leb 1 c.args.number && leb c.args.number 8) ≡ true = grind (arith, common_steps) in
+    let t = text_written c.args.kind c.args.number c.args.s.now c.args.out.now k i c.in_ok-header.header c.in_ok-header.ensures.opened (rw c.text.ensures.text at c.write.ensures.text) (rw c.text.ensures.replaced at c.write.ensures.replaced) in
+    record { text = t.0; replaced = t.1 }

@@ -5,4 +5,4 @@ use Rattle.fid.proofs.fid_restart.Goals as goal
 
 pub returns : goal.returns
 unfolding of_int of_bits
-returns c = rw (c.fid_given.ensures, c.f64_from_u16.ensures, c.f64_from_i32.ensures, to_z-of_z c.ranges.high)
+returns c = rw (c.fid_given.ensures, c.from-2.ensures, c.from.ensures, to_z-of_z c.ranges.high)

@@ -1,19 +1,17 @@
 -- By whether it is a NaN.
-use mathlib.Core.Path.{sym, ap, ◌∙◌}
-use borrow.Author.Rules.{rules}
-use Rattle.digits.specs.Numbers.{field}
+use Rattle.std.proofs.Common.{sym, ap, ◌∙◌}
+use Rattle.digits.specs.Put.{Puts}
+use Rattle.floats.specs.Doubles.{bits_of}
 use Rattle.lines.specs.Lines.{bits_text}
-use Rattle.digits.proofs.Puts.{put_as, put_then}
+use Rattle.digits.proofs.Puts.{puts_as, puts_then, puts_to}
+use Rattle.lines.proofs.put_double.Goals.{in-Some, in-None}
 use Rattle.lines.proofs.put_double.Goals as goal
 
-pub returns-in-Pattern : goal.returns-in-Pattern
+pub returns-clause-put : goal.returns-clause-put
 unfolding bits_text
-returns-in-Pattern c =
-    let is = sym c.in-Pattern.is ∙ c.f64_to_bits.ensures in
-    record { put = put_as (ap (λ b. field (bits_text b) c.args.sep) is) (put_then c.put_bits-a.ensures.put c.put_byte.ensures); upper_bound = search rules }
-
-pub returns-in-Nan : goal.returns-in-Nan
-unfolding bits_text
-returns-in-Nan c =
-    let is = sym c.in-Nan.is ∙ c.f64_to_bits.ensures in
-    record { put = put_as (ap (λ b. field (bits_text b) c.args.sep) is) (put_then c.put_byte-a.ensures (put_then c.put_byte-b.ensures (put_then c.put_byte-c.ensures c.put_byte-in-Nan.ensures))); upper_bound = search rules }
+returns-clause-put c =
+    let bits : Puts (bits_text (bits_of c.args.x)) c.args.pen.now c.match-f64_to_bits.pen = elim c.match-f64_to_bits.branch [
+      | in-Some w ↦ puts_as (ap bits_text (sym w.in-Some.is ∙ c.f64_to_bits.ensures)) (puts_to w.pen-is w.put_bits.ensures)
+      | in-None w ↦ puts_as (ap bits_text (sym w.in-None.is ∙ c.f64_to_bits.ensures)) (puts_to w.pen-is w.put_text.ensures)
+    ] in
+    puts_then bits c.put_byte.ensures

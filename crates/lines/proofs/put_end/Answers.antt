@@ -1,7 +1,6 @@
 -- The letter, the answer and the count.
-use borrow.Author.Rules.{rules}
-use Rattle.digits.proofs.Puts.{put_then}
+use Rattle.digits.proofs.Puts.{puts_then}
 use Rattle.lines.proofs.put_end.Goals as goal
 
-pub returns : goal.returns
-returns c = record { put = put_then c.put_letter-a.ensures (put_then c.put_answer-b.ensures.put c.put_number.ensures.put); upper_bound = search rules }
+pub returns-clause-put : goal.returns-clause-put
+returns-clause-put c = puts_then c.put_letter.ensures (puts_then c.put_answer.ensures.put c.put_number.ensures.put)

@@ -1,6 +1,6 @@
 -- Two bytes.
-use Rattle.digits.proofs.Puts.{put_then}
+use Rattle.digits.proofs.Puts.{puts_then}
 use Rattle.lines.proofs.put_letter.Goals as goal
 
 pub returns : goal.returns
-returns c = put_then c.put_byte-a.ensures c.put_byte.ensures
+returns c = puts_then c.put_byte.ensures c.put_byte-2.ensures

@@ -1,20 +1,17 @@
 -- By the record's case.
-use mathlib.Core.Path.{sym, ap}
-use borrow.Author.Rules.{rules}
+use Rattle.std.proofs.Common.{sym, ap}
 use Rattle.lines.specs.Lines.{record_line}
-use Rattle.digits.proofs.Puts.{put_as, put_then}
+use Rattle.digits.proofs.Puts.{puts_as, puts_then}
 use Rattle.lines.proofs.put_record.Goals as goal
 
-pub returns-in-Trace : goal.returns-in-Trace
+pub returns-in-Trace-clause-put : goal.returns-in-Trace-clause-put
 unfolding record_line
-returns-in-Trace c =
-    let p = put_then c.put_time-a.ensures.put (put_then c.put_letter-b.ensures c.put_values.ensures.put) in
-    record { put = put_as (ap record_line (sym c.in-Trace.is)) p; upper_bound = search rules }
+returns-in-Trace-clause-put c = puts_as (ap record_line (sym c.in-Trace.is)) (puts_then c.put_time.ensures.put (puts_then c.put_letter.ensures c.put_values.ensures.put))
 
-pub returns-in-Mass : goal.returns-in-Mass
+pub returns-in-Mass-clause-put : goal.returns-in-Mass-clause-put
 unfolding record_line
-returns-in-Mass c = record { put = put_as (ap record_line (sym c.in-Mass.is)) c.put_point.ensures.put; upper_bound = search rules }
+returns-in-Mass-clause-put c = puts_as (ap record_line (sym c.in-Mass.is)) c.put_point.ensures.put
 
-pub returns-in-Spectrum : goal.returns-in-Spectrum
+pub returns-in-Spectrum-clause-put : goal.returns-in-Spectrum-clause-put
 unfolding record_line
-returns-in-Spectrum c = record { put = put_as (ap record_line (sym c.in-Spectrum.is)) c.put_point-in-Spectrum.ensures.put; upper_bound = search rules }
+returns-in-Spectrum-clause-put c = puts_as (ap record_line (sym c.in-Spectrum.is)) c.put_point-in-Spectrum.ensures.put

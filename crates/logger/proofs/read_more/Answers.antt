@@ -10,4 +10,4 @@ returns-in-Ok-clause-falls g c = λ p old text f. subst (λ x. weight x < weight
 
 pub returns-in-Ok-clause-took : goal.returns-in-Ok-clause-took
 returns-in-Ok-clause-took g c =
-    λ whole. took_part c.args.q c.took.result c.args.n c.in-Ok.k c.args.buf.now c.read.new.buf _ _ c.requires (omega (arith, c.read.auto.buf)) c.in-Ok.ensures.bound.0 refl (search rules) c.took.ensures _ _ c.in-Ok.ensures.bytes.0 c.in-Ok.ensures.bytes.1
+    took_part c.args.q c.took.result c.args.n c.in-Ok.k c.args.buf.now c.read.new.buf _ _ c.requires (omega (arith, c.read.auto.buf)) c.in-Ok.ensures.bound.0 refl (search rules) c.took.ensures _ _ c.in-Ok.ensures.bytes.0 c.in-Ok.ensures.bytes.1

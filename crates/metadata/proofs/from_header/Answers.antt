@@ -1,35 +1,30 @@
--- The edition's minimum first, then the texts.
-use mathlib.Core.Path.{sym, ap, subst}
-use native.Mathlib.Omega.{arith}
-use Rattle.layouts.specs.Layouts.{layout_of}
-use Rattle.metadata.specs.Remaining.{OpensWhole}
-use Rattle.metadata.proofs.Opens.{whole_refused, edition_unknown, below_minimum, past_minimum}
+-- The description first, then what the kind asks.
+use mathlib.Core.Path.{sym, ap, ◌∙◌}
+use lib.Ieee.{of_int, of_bits}
+use Rattle.std.proofs.lemmas.Result.{err_from_is_err_and}
+use Rattle.rules.specs.Rule.{gives}
+use Rattle.floats.specs.Doubles.{double}
+use Rattle.agilent.specs.Header.{kind_number}
+use Rattle.metadata.specs.Metadata.{after_bytes}
+use Rattle.metadata.proofs.Opens.{not_described, is_described, no_scans, stored_scans}
 use Rattle.metadata.proofs.from_header.Goals as goal
 
-pub returns-then-layout-eq0 : goal.returns-then-layout-eq0
-unfolding layout_of
-returns-then-layout-eq0 c =
-    let l = c in
-    let m = ap (λ l. l.minimum) c.layout_of-layout.ensures in
-    whole_refused c.args.h.now (edition_unknown c.args.kind c.args.h.now c.be_u32-edition.result c.be_u32-edition.ensures (omega arith)) c.not_opened.ensures
+pub returns-in_err-metadata : goal.returns-in_err-metadata
+returns-in_err-metadata c =
+    let p = err_from_is_err_and c.from_residual.result c.from_residual.ensures.1 in
+    rw (p.1, p.2) (sym (not_described _ c.args.h.now (sym c.in_err-metadata.ensures)))
 
-pub returns-then-h-layout : goal.returns-then-h-layout
-unfolding layout_of
-returns-then-h-layout c =
-    let l = c in
-    let m = ap (λ l. l.minimum) c.layout_of-layout.ensures in
-    whole_refused c.args.h.now (below_minimum c.args.kind c.args.h.now c.be_u32-edition.result c.be_u32-edition.ensures (omega arith) (omega arith)) c.not_opened-then-h-layout.ensures
+pub returns-in-Array : goal.returns-in-Array
+returns-in-Array c =
+    c.open_array.ensures ∙ sym (is_described 6 c.args.h.now (sym c.in_ok-metadata.ensures)) ∙ ap (λ k. after_bytes (kind_number k) c.args.h.now) (sym c.in-Array.is)
 
-pub open_texts-requires : goal.open_texts-requires
-unfolding layout_of
-open_texts-requires c =
-    let e = c.layout_of-layout.ensures in
-    let m = ap (λ l. l.minimum) e in
-    (omega arith, omega arith, e)
+pub returns-in-Fid : goal.returns-in-Fid
+unfolding of_int of_bits
+returns-in-Fid c =
+    sym (is_described _ c.args.h.now (sym c.in_ok-metadata.ensures) ∙ no_scans c.in_ok-metadata.metadata c.args.h.now c.in-Fid.is)
 
-pub returns : goal.returns
-unfolding layout_of
-returns c =
-    let l = c in
-    let m = ap (λ l. l.minimum) c.layout_of-layout.ensures in
-    subst (λ x. OpensWhole c.args.h.now x c.open_texts.result) (sym (past_minimum c.args.kind c.args.h.now c.be_u32-edition.result c.be_u32-edition.ensures (omega arith) (omega arith))) c.open_texts.ensures
+pub returns-in-Ms : goal.returns-in-Ms
+unfolding of_int of_bits
+returns-in-Ms c =
+    ap (λ n. gives (record { bytes = c.args.h.now; says = c.in_ok-metadata.metadata; scans = n; step = double 0 })) c.be_at.ensures
+    ∙ sym (is_described _ c.args.h.now (sym c.in_ok-metadata.ensures) ∙ stored_scans c.in_ok-metadata.metadata c.args.h.now c.in-Ms.is)

@@ -1,18 +1,26 @@
 -- The size first, then the count.
-use mathlib.Core.Path.{sym, ◌∙◌}
+use mathlib.Core.Path.{◌≡◌, sym, ◌∙◌}
+use native.Mathlib.Omega.{arith}
+use Rattle.std.proofs.Common.{Some, None}
+use Rattle.std.proofs.lemmas.Result.{err_from_is_err_and}
 use Rattle.rules.specs.Rule.{◌>>=◌}
-use Rattle.metadata.proofs.Opens.{whole_refused, whole_opened, array_small, array_counted}
+use Rattle.error.specs.declared.Refusal.TheVariants.{TooManyScans}
+use Rattle.metadata.proofs.Opens.{array_small, array_counted}
 use Rattle.metadata.proofs.open_array.Goals as goal
 
 pub returns-then-h-lt4126 : goal.returns-then-h-lt4126
-returns-then-h-lt4126 c = whole_refused c.args.h.now (array_small c.args.d c.args.h.now c.if-h-lt4126.true) c.not_opened.ensures
+returns-then-h-lt4126 c = sym (array_small c.args.metadata c.args.h.now c.if-h-lt4126.true)
 
-pub returns-in-TooMany : goal.returns-in-TooMany
+pub returns-in_err-scans : goal.returns-in_err-scans
 unfolding ◌>>=◌
-returns-in-TooMany c =
-    whole_refused c.args.h.now (array_counted c.args.d c.args.h.now c.if-h-lt4126.false c.time_step-time_step.ensures (sym c.in-TooMany.is ∙ c.scan_count.ensures)) c.not_opened-in-TooMany.ensures
+returns-in_err-scans c =
+    let p = err_from_is_err_and c.from_residual.result c.from_residual.ensures.1 in
+    let n : c.scan_count.result ≡ None = grind arith in
+    let e : c.in_err-scans.field-0.0 ≡ TooManyScans = grind arith in
+    rw (p.1, p.2, e) (sym (array_counted c.args.metadata c.args.h.now c.if-h-lt4126.false c.time_step-time_step.ensures (sym n ∙ c.scan_count.ensures)))
 
-pub returns-in-Count : goal.returns-in-Count
+pub returns : goal.returns
 unfolding ◌>>=◌
-returns-in-Count c =
-    whole_opened c.args.h.now (array_counted c.args.d c.args.h.now c.if-h-lt4126.false c.time_step-time_step.ensures (sym c.in-Count.is ∙ c.scan_count.ensures))
+returns c =
+    let n : c.scan_count.result ≡ Some c.in_ok-scans.scans = grind arith in
+    sym (array_counted c.args.metadata c.args.h.now c.if-h-lt4126.false c.time_step-time_step.ensures (sym n ∙ c.scan_count.ensures))

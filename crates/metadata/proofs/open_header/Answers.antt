@@ -1,30 +1,47 @@
--- The header is read first; of a whole one, the rest of the rule says what is opened.
-use mathlib.Core.Path.{sym, ap, ◌∙◌, subst}
+-- The kind first, then the header's bytes; of a whole header, the rest of the rule says what is opened.
+use mathlib.Core.Path.{sym, ap, ◌∙◌}
 use native.Mathlib.Nat.{sub-zero}
 use lib.ListN.{take}
 use lib.Seq.{length-take-le}
-use Rattle.agilent.specs.Header.{size_read}
-use Rattle.agilent.proofs.HeaderLaws.{header_stops, header_gives}
-use Rattle.metadata.specs.Metadata.{Opens}
-use Rattle.metadata.proofs.Opens.{open_reads, header_opened}
+use Rattle.std.proofs.lemmas.Result.{err_from_is_err_and}
+use Rattle.rules.specs.Rule.{got}
+use Rattle.agilent.proofs.HeaderLaws.{size_unknown, header_stops, header_gives}
+use Rattle.metadata.proofs.Opens.{open_reads, open_refused, open_gives}
+use Rattle.metadata.proofs.HeaderReads.{says_size}
 use Rattle.metadata.proofs.open_header.Goals as goal
+
+pub returns-in_err-known : goal.returns-in_err-known
+returns-in_err-known c =
+    let p = err_from_is_err_and c.from_residual.result c.from_residual.ensures.1 in
+    let e = c.in_err-known.ensures in
+    rw (p.1, p.2, e.0) (sym (open_reads _ _ _ (header_stops c.args.kind c.args.last c.args.s.now _ (sym (size_unknown c.args.kind c.args.last c.args.s.now e.1)))))
+
+pub returns-in_err-size : goal.returns-in_err-size
+returns-in_err-size c =
+    let p = err_from_is_err_and c.from_residual-in_err-size.result c.from_residual-in_err-size.ensures.1 in
+    rw (p.1, p.2) (sym (open_reads _ _ _ (header_stops c.args.kind c.args.last c.args.s.now _ c.in_err-size.ensures)))
 
 pub slice_bounds-from_header-end : goal.slice_bounds-from_header-end
 slice_bounds-from_header-end c =
-    let g = header_gives c.args.kind c.args.last c.args.s.now _ (ap size_read (sym c.in-Bytes.is) ∙ c.read_agilent_header.ensures) in
-    g.2
+    let g = header_gives c.args.kind c.args.last c.args.s.now _ c.in_ok-size.ensures in g.2
 
 pub from_header-requires : goal.from_header-requires
 from_header-requires c =
-    let g = header_gives c.args.kind c.args.last c.args.s.now _ (ap size_read (sym c.in-Bytes.is) ∙ c.read_agilent_header.ensures) in
+    let g = header_gives c.args.kind c.args.last c.args.s.now _ c.in_ok-size.ensures in
     rw (sub-zero, length-take-le _ c.args.s.now g.2) g.1
 
-pub returns-in-Stopped : goal.returns-in-Stopped
-returns-in-Stopped c =
-    let e = header_stops c.args.kind c.args.last c.args.s.now _ (ap size_read (sym c.in-Stopped.is) ∙ c.read_agilent_header.ensures) in
-    subst (λ x. Opens c.args.s.now x c.not_opened.result) (sym (open_reads c.args.kind c.args.last c.args.s.now e)) (c.not_opened.ensures c.args.s.now)
+pub returns-in_err-opened : goal.returns-in_err-opened
+returns-in_err-opened c =
+    let g = header_gives c.args.kind c.args.last c.args.s.now _ c.in_ok-size.ensures in
+    let p = err_from_is_err_and c.from_residual-in_err-opened.result c.from_residual-in_err-opened.ensures.1 in
+    let o = rw (c.in_ok-known.ensures, sub-zero) at c.in_err-opened.ensures in
+    rw (p.1, p.2) (sym (open_refused c.args.kind c.args.last c.args.s.now _ g.0 (sym o)))
 
-pub returns-in-Bytes : goal.returns-in-Bytes
-returns-in-Bytes c =
-    let g = header_gives c.args.kind c.args.last c.args.s.now _ (ap size_read (sym c.in-Bytes.is) ∙ c.read_agilent_header.ensures) in
-    header_opened c.args.kind c.args.last c.args.s.now _ _ (ap (λ k. take k c.args.s.now) (sub-zero c.in-Bytes.n)) g.2 c.from_header.ensures g.0
+pub returns : goal.returns
+returns c =
+    let g = header_gives c.args.kind c.args.last c.args.s.now _ c.in_ok-size.ensures in
+    let o = simp (c.in_ok-known.ensures, sub-zero) at c.in_ok-opened.ensures in
+    let x = c.in_ok-opened.opened in
+    let m = says_size c.args.kind _ (sym o) ∙ length-take-le _ c.args.s.now g.2 in
+    ap (λ n. got (record { bytes = take n c.args.s.now; says = x.metadata; scans = x.scans; step = x.time_step }) n) m
+    ∙ sym (open_gives c.args.kind c.args.last c.args.s.now _ g.0 (sym o))

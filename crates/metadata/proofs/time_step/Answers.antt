@@ -4,4 +4,4 @@ use Rattle.metadata.proofs.time_step.Goals as goal
 
 pub returns : goal.returns
 unfolding of_int of_bits
-returns c = rw (c.f64_from_u16-second.ensures, c.be_u16-2.ensures, c.f64_from_u16-first.ensures, c.be_u16.ensures)
+returns c = rw (c.from-second.ensures, c.be_at-2.ensures, c.from-first.ensures, c.be_at.ensures)

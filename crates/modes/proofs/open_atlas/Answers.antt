@@ -1,25 +1,31 @@
 -- A kind that is refused, or what Open answers with its state under the atlas reading.
-use mathlib.Core.Path.{refl, sym, ap, ◌∙◌}
-use borrow.Author.Tests.{not-true, not-false}
+use mathlib.Core.Path.{sym, ap, ◌∙◌}
+use Rattle.std.specs.Prelude.{Ok, Err}
+use Rattle.std.proofs.lemmas.Result.{err_from_is_err_and}
+use Rattle.error.specs.declared.Refusal.TheVariants.{UnknownKind, KindWithoutAtlas}
+use Rattle.agilent.proofs.HeaderLaws.{is_known}
+use Rattle.modes.specs.Modes.{has_atlas}
 use Rattle.modes.proofs.ModeLaws.{no_kind, no_atlas, refused_by, opened_by_lem}
-use Rattle.opening.specs.declared.Opening.TheVariants.{Run}
 use Rattle.modes.proofs.open_atlas.Goals as goal
 
-pub returns-then-not-is_known : goal.returns-then-not-is_known
-returns-then-not-is_known c =
-    refused_by c.args.kind c.args.last c.args.s.now _ _ c.not_opened.ensures (no_kind c.args.kind (sym c.is_known.ensures ∙ not-true _ c.if-not-is_known.true-raw))
+pub returns-in_err-try_from : goal.returns-in_err-try_from
+returns-in_err-try_from c =
+    let p = err_from_is_err_and c.from_residual.result c.from_residual.ensures.1 in
+    let e = c.in_err-try_from.ensures in
+    rw (p.1, p.2, e.0) (refused_by c.args.kind c.args.last c.args.s.now UnknownKind (no_kind c.args.kind e.1))
 
 pub returns-then-not-has_atlas : goal.returns-then-not-has_atlas
 returns-then-not-has_atlas c =
-    refused_by c.args.kind c.args.last c.args.s.now _ _ c.not_opened-then-not-has_atlas.ensures
-    (no_atlas c.args.kind (sym c.is_known.ensures ∙ not-false _ c.if-not-is_known.false-raw) (sym c.has_atlas.ensures ∙ not-true _ c.if-not-has_atlas.true-raw))
+    let none = ap has_atlas (sym c.in_ok-try_from.ensures) ∙ sym c.has_atlas.ensures ∙ c.if-not-has_atlas.true in
+    rw c.into.ensures (refused_by c.args.kind c.args.last c.args.s.now KindWithoutAtlas (no_atlas c.args.kind (is_known _ c.in_ok-try_from.ensures) none))
 
-pub returns-in-Stopped : goal.returns-in-Stopped
-returns-in-Stopped c =
-    opened_by_lem c.args.kind c.args.last c.args.s.now c.open_run-o.result _ _ (sym c.is_known.ensures ∙ not-false _ c.if-not-is_known.false-raw) (sym c.has_atlas.ensures ∙ not-false _ c.if-not-has_atlas.false-raw)
-    c.open_run-o.ensures c.in-Stopped.is refl refl
+pub returns-in_err-run : goal.returns-in_err-run
+returns-in_err-run c =
+    let p = err_from_is_err_and c.from_residual-in_err-run.result c.from_residual-in_err-run.ensures.1 in
+    let some = ap has_atlas (sym c.in_ok-try_from.ensures) ∙ sym c.has_atlas.ensures ∙ c.if-not-has_atlas.false in
+    rw (p.1, p.2) (opened_by_lem c.args.kind c.args.last c.args.s.now (Err c.in_err-run.field-0.0) (is_known _ c.in_ok-try_from.ensures) some c.in_err-run.ensures)
 
-pub returns-in-Run : goal.returns-in-Run
-returns-in-Run c =
-    opened_by_lem c.args.kind c.args.last c.args.s.now c.open_run-o.result _ _ (sym c.is_known.ensures ∙ not-false _ c.if-not-is_known.false-raw) (sym c.has_atlas.ensures ∙ not-false _ c.if-not-has_atlas.false-raw)
-    c.open_run-o.ensures c.in-Run.is (ap (λ st. Run st c.in-Run.n) c.atlas_of-atlas.ensures) refl
+pub returns : goal.returns
+returns c =
+    let some = ap has_atlas (sym c.in_ok-try_from.ensures) ∙ sym c.has_atlas.ensures ∙ c.if-not-has_atlas.false in
+    rw c.in_atlas-state.ensures (opened_by_lem c.args.kind c.args.last c.args.s.now (Ok c.in_ok-run.run') (is_known _ c.in_ok-try_from.ensures) some c.in_ok-run.ensures)

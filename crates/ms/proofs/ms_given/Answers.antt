@@ -4,4 +4,4 @@ use Rattle.ms.proofs.ms_given.Goals as goal
 
 pub returns : goal.returns
 unfolding of_int of_bits
-returns c = rw c.f64_from_u16.ensures
+returns c = rw c.from.ensures

@@ -6,4 +6,4 @@ use Rattle.ms.proofs.MsLaws.{shifted}
 use Rattle.ms.proofs.ms_intensity.Goals as goal
 
 pub returns : goal.returns
-returns c = c.f64_from_u32.ensures ∙ ap double (shifted _ _ (omega arith) (omega arith))
+returns c = c.from.ensures ∙ ap double (shifted _ _ (omega arith) (omega arith))

@@ -7,13 +7,13 @@ use Rattle.streams.proofs.ScanningLaws.{scans_done, scan_new, scan_within}
 use Rattle.ms.specs.Ms.{ms_scanning}
 use Rattle.ms.proofs.ms_next.Goals as goal
 
-pub returns-then-scans-eq0 : goal.returns-then-scans-eq0
-returns-then-scans-eq0 c = sym (scans_done (Ms c.args.st) (ms_scanning c.args.st) c.args.last c.args.s.now (eq-eqb _ _ c.if-scans-eq0.true))
+pub returns-then-st-eq0 : goal.returns-then-st-eq0
+returns-then-st-eq0 c = sym (scans_done (Ms c.args.st) (ms_scanning c.args.st) c.args.last c.args.s.now (eq-eqb _ _ c.if-st-eq0.true))
 
-pub returns-then-points-eq0 : goal.returns-then-points-eq0
-returns-then-points-eq0 c =
-    c.ms_scans.ensures (sum_of (Ms c.args.st)) ∙ sym (scan_new (Ms c.args.st) (ms_scanning c.args.st) c.args.last c.args.s.now (ne_eqb _ _ c.if-scans-eq0.false) c.if-points-eq0.true)
+pub returns-then-st-eq0-2 : goal.returns-then-st-eq0-2
+returns-then-st-eq0-2 c =
+    c.ms_scans.ensures (sum_of (Ms c.args.st)) ∙ sym (scan_new (Ms c.args.st) (ms_scanning c.args.st) c.args.last c.args.s.now (ne_eqb _ _ c.if-st-eq0.false) c.if-st-eq0-2.true)
 
 pub returns : goal.returns
 returns c =
-    c.ms_point.ensures (sum_of (Ms c.args.st)) ∙ sym (scan_within (Ms c.args.st) (ms_scanning c.args.st) c.args.last c.args.s.now (ne_eqb _ _ c.if-scans-eq0.false) c.if-points-eq0.false)
+    c.ms_point.ensures (sum_of (Ms c.args.st)) ∙ sym (scan_within (Ms c.args.st) (ms_scanning c.args.st) c.args.last c.args.s.now (ne_eqb _ _ c.if-st-eq0.false) c.if-st-eq0-2.false)

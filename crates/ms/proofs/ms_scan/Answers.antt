@@ -8,9 +8,9 @@ use Rattle.ms.proofs.ms_scan.Goals as goal
 
 pub returns-then-s-at-lt-HEAD : goal.returns-then-s-at-lt-HEAD
 returns-then-s-at-lt-HEAD c v =
-    ap stops c.cut.ensures ∙ ap (map_read (stepped v)) (sym (filled_cut c.args.scans.0 (omega arith) c.args.last c.args.at c.args.s.now (omega arith) (omega arith) (omega arith) (omega arith)))
+    ap stops c.lacking.ensures ∙ ap (map_read (stepped v)) (sym (filled_cut c.args.scans.0 (omega arith) c.args.last c.args.at c.args.s.now (omega arith) (omega arith) (omega arith) (omega arith)))
 
 pub returns : goal.returns
 returns c v =
-    rw (c.ms_point.ensures v, c.requires.3, c.minutes_of-time.ensures, c.f64_from_u32.ensures, c.be_u32-stored.ensures)
+    rw (c.ms_point.ensures v, c.requires.3, c.minutes_of.ensures, c.from.ensures, c.be_at-stored_time.ensures)
     (ap (map_read (stepped v)) (sym (filled_point c.args.scans.0 (omega arith) c.args.last c.args.at c.args.s.now (omega arith) (omega arith) (omega arith))))

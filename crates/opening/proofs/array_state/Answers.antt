@@ -4,4 +4,4 @@ use Rattle.opening.proofs.array_state.Goals as goal
 
 pub returns : goal.returns
 unfolding of_int of_bits
-returns c = rw c.record_type-record_type.ensures
+returns c = rw c.record_type.ensures

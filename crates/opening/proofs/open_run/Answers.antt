@@ -1,29 +1,38 @@
 -- The header's answer, and for a header that was opened the state that its kind begins with.
-use mathlib.Core.Path.{subst}
-use native.Mathlib.Nat.{sub-zero}
-use Rattle.metadata.specs.Metadata.{Blank}
+use mathlib.Core.Path.{◌≡◌, sym, ◌∙◌}
+use mathlib.Core.Bool.{false, false≢true}
+use borrow.Author.Tests.{le-leb}
+use lib.Seq.{length-take-le}
+use Rattle.std.proofs.lemmas.Result.{err_from_is_err_and}
 use Rattle.rules.proofs.Laws.{read_map}
+use Rattle.agilent.specs.Header.{known}
 use Rattle.metadata.proofs.HeaderReads.{read_stopped, read_opened, fits}
 use Rattle.opening.proofs.open_run.Goals as goal
 
+pub returns-in_err-header : goal.returns-in_err-header
+returns-in_err-header c =
+    let p = err_from_is_err_and c.from_residual.result c.from_residual.ensures.1 in
+    let q = read_stopped c.args.last c.args.kind c.args.s.now c.open_header.result c.open_header.ensures c.in_err-header.was in
+    rw (p.1, p.2) (record { state = rw (read_map, q); says = rw (read_map, q) })
+
+-- a header that was opened is of a known kind
+pub returns-in_err-kind : goal.returns-in_err-kind
+returns-in_err-kind c =
+    let f = fits c.args.last c.args.kind c.args.s.now c.open_header.result c.open_header.ensures c.in_ok-header.was in
+    let unknown : known c.args.kind ≡ false = c.in_err-kind.ensures.1 in
+    absurd (false≢true (sym (rw (le-leb 1 _ f.0.low, le-leb _ 6 f.0.high) at unknown)))
+
 pub slice_bounds-first_state-end : goal.slice_bounds-first_state-end
 slice_bounds-first_state-end c =
-    let f = fits c.args.last c.args.kind c.args.s.now c.open_header-o.result c.open_header-o.ensures c.in-Header.is in
-    f.1
+    let f = fits c.args.last c.args.kind c.args.s.now c.open_header.result c.open_header.ensures c.in_ok-header.was in
+    sym (length-take-le c.in_ok-header.header.metadata.size c.args.s.now f.1)
 
-pub first_state-st-requires : goal.first_state-st-requires
-first_state-st-requires c =
-    let f = fits c.args.last c.args.kind c.args.s.now c.open_header-o.result c.open_header-o.ensures c.in-Header.is in
-    ((f.0.low, f.0.high), rw sub-zero f.0.step)
+pub first_state-state-requires : goal.first_state-state-requires
+first_state-state-requires c =
+    let f = fits c.args.last c.args.kind c.args.s.now c.open_header.result c.open_header.ensures c.in_ok-header.was in
+    λ six. f.0.step (sym c.in_ok-kind.ensures ∙ six)
 
-pub returns-in-Stopped : goal.returns-in-Stopped
-returns-in-Stopped c =
-    let r = c.open_header-o.result in
-    let e = c.in-Stopped.is in
-    let q = read_stopped c.args.last c.args.kind c.args.s.now r c.open_header-o.ensures e in
-    record { state = rw (read_map, q); says = rw (read_map, q); empty = subst (Blank c.open_header-o.result.metadata) e c.open_header-o.ensures.empty }
-
-pub returns-in-Header : goal.returns-in-Header
-returns-in-Header c =
-    let q = read_opened c.args.last c.args.kind c.args.s.now c.open_header-o.result c.open_header-o.ensures c.in-Header.is in
-    record { state = rw (read_map, q, c.first_state-st.ensures, sub-zero); says = rw (read_map, q); empty = tt }
+pub returns : goal.returns
+returns c =
+    let q = read_opened c.args.last c.args.kind c.args.s.now c.open_header.result c.open_header.ensures c.in_ok-header.was in
+    record { state = rw (read_map, q, c.first_state-state.ensures, c.in_ok-kind.ensures); says = rw (read_map, q) }

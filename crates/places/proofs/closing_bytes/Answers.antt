@@ -16,14 +16,16 @@ loop-n-init c = (omega arith, ap (λ k. finished_from k 0 c.args.st c.args.s.now
 
 pub returns-then-finished : goal.returns-then-finished
 returns-then-finished c =
-    let here = ap (λ k. is_finished (read false (rule c.args.st) (take k c.args.s.now))) (sym (sub-zero c.loop-n.n)) ∙ sym c.finished.ensures ∙ c.if-finished.true in
+    let here = sym c.finished.ensures ∙ c.if-finished.true in
     (sym (c.loop-n.invariant.1 ∙ finished_here (length c.args.s.now - c.loop-n.n) c.loop-n.n c.args.st c.args.s.now here), c.loop-n.invariant.0)
 
 pub loop-n-preserved : goal.loop-n-preserved
 loop-n-preserved c =
-    let here = ap (λ k. is_finished (read false (rule c.args.st) (take k c.args.s.now))) (sym (sub-zero c.loop-n.n)) ∙ sym c.finished.ensures ∙ c.if-finished.false in
+    let here = sym c.finished.ensures ∙ c.if-finished.false in
     (omega arith, c.loop-n.invariant.1 ∙ finished_later (length c.args.s.now - c.loop-n.n) (length c.args.s.now - (c.loop-n.n + 1)) c.loop-n.n c.args.st c.args.s.now (omega arith) here)
 
 pub returns : goal.returns
 returns c =
-    (sym (c.loop-n.invariant.1 ∙ ap (λ k. finished_from k c.loop-n.n c.args.st c.args.s.now) (let e : length c.args.s.now - c.loop-n.n ≡ 0 = omega arith in e)), c.loop-n.invariant.0)
+    let none : length c.args.s.now - c.loop-n.n ≡ 0 = omega arith in
+    let all : c.loop-n.n ≡ length c.args.s.now = omega arith in
+    (sym (c.loop-n.invariant.1 ∙ ap (λ k. finished_from k c.loop-n.n c.args.st c.args.s.now) none ∙ all), omega arith)

@@ -7,6 +7,3 @@ use Rattle.places.proofs.closing_bytes.Given as goal
 
 abbrev pub invariant-loop-n : goal.invariant-loop-n
 invariant-loop-n l = (l.n ≤ length l.s) × (closing_bytes l.st l.s ≡ finished_from (length l.s - l.n) l.n l.st l.s)
-
-abbrev pub decreases-loop-n : goal.decreases-loop-n
-decreases-loop-n l = length l.s - l.n

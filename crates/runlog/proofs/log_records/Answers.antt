@@ -12,40 +12,40 @@ use Rattle.tally.specs.declared.Tally.{Tally}
 use Rattle.runlog.proofs.Logs.{logged_as, summed, line_some, no_room, logged_stops, logging_start, logging_more, logging_end}
 use Rattle.runlog.proofs.log_records.Goals as goal
 
-pub loop-out-init : goal.loop-out-init
-loop-out-init c =
-    (c.start-sum.result.far, logging_start _ _ _ _ _ _ _ c.requires.0 c.requires.1, subst (λ (s : Tally). StandsFor s s.far) (sym c.start-sum.ensures) (starts _))
+pub loop-pen-init : goal.loop-pen-init
+loop-pen-init c =
+    (c.start-sum.result.far, logging_start _ _ _ _ _ _ c.requires.0 c.requires.1, subst (λ (s : Tally). StandsFor s s.far) (sym c.start-sum.ensures) (starts _))
 
-pub overflow_sub-out : goal.overflow_sub-out
-overflow_sub-out c = omega (arith, c.loop-out.invariant.1.put.fits, c.loop-out.invariant.1.put.same)
+pub overflow_sub-pen : goal.overflow_sub-pen
+overflow_sub-pen c = omega (arith, c.loop-pen.invariant.1.put.put.fits, c.loop-pen.invariant.1.put.put.same)
 
 -- the total before the loop is the one that was given
-pub returns-in-Stopped : goal.returns-in-Stopped
-returns-in-Stopped c =
-    let q = answered c.loop-out.cur c.args.last c.args.src.now c.loop-out.f _ _ c.next_record.ensures c.in-Stopped.is in
-    logged_as c.start-sum.ensures (logging_end _ _ _ _ _ _ _ _ _ _ _ _ _ _ (summed _ _ _ _ _ _ _ (c.total_of.ensures ∙ totals _ _ c.loop-out.invariant.2) c.loop-out.invariant.1) (logged_stops _ _ _ _ (omega arith) q))
+pub returns-in-Err : goal.returns-in-Err
+returns-in-Err c =
+    let q = answered c.loop-pen.cur c.args.last c.args.src.now c.loop-pen.f _ _ c.next_record.ensures c.in-Err.is in
+    logged_as c.start-sum.ensures (logging_end _ _ _ _ _ _ _ _ _ _ _ _ (summed _ _ _ _ _ _ (c.total.ensures ∙ totals _ _ c.loop-pen.invariant.2) c.loop-pen.invariant.1) (logged_stops _ _ _ _ (omega arith) q))
 
-pub loop-out-preserved : goal.loop-out-preserved
-loop-out-preserved c =
-    let r = c.in-Given.r in
-    let t = c.loop-out.invariant.0 in
-    let q = answered c.loop-out.cur c.args.last c.args.src.now c.loop-out.f _ _ c.next_record.ensures c.in-Given.is in (
+pub loop-pen-preserved : goal.loop-pen-preserved
+loop-pen-preserved c =
+    let r = c.in-Ok.given.«record» in
+    let t = c.loop-pen.invariant.0 in
+    let q = answered c.loop-pen.cur c.args.last c.args.src.now c.loop-pen.f _ _ c.next_record.ensures c.in-Ok.is in (
       plus t (unscaled_of r),
-      logging_more _ _ _ _ _ _ _ _ _ _ _ _ _ _ _ _ _ _ c.loop-out.invariant.1 (omega arith) q c.put_record-a.ensures.put,
+      logging_more _ _ _ _ _ _ _ _ _ _ _ _ _ _ _ c.loop-pen.invariant.1 (omega arith) q c.put_record.ensures.put,
       subst (λ (s : Tally). StandsFor s (plus t (unscaled_of r))) (sym c.add-sum.ensures)
-          (subst (λ (v : Float). StandsFor (added_to c.loop-out.sum v) (plus t (unscaled_of r))) (sym c.unscaled_of.ensures) (adds c.loop-out.sum t (unscaled_of r) c.loop-out.invariant.2)),
+          (subst (λ (v : Float). StandsFor (added_to c.loop-pen.sum v) (plus t (unscaled_of r))) (sym c.unscaled.ensures) (adds c.loop-pen.sum t (unscaled_of r) c.loop-pen.invariant.2)),
     )
 
 pub overflow_add-f : goal.overflow_add-f
-overflow_add-f c = omega (arith, (loop-out-preserved c).1.inside)
+overflow_add-f c = omega (arith, (loop-pen-preserved c).1.inside)
 
 pub overflow_add-count : goal.overflow_add-count
-overflow_add-count c = omega (arith, (loop-out-preserved c).1.few, c.put_record-a.ensures.upper_bound)
+overflow_add-count c = omega (arith, (loop-pen-preserved c).1.few, c.put_record.ensures.upper_bound)
 
-pub loop-out-smaller : goal.loop-out-smaller
-loop-out-smaller c =
-    omega (arith, c.put_record-a.ensures.put.next, c.put_record-a.ensures.put.same, c.put_record-a.ensures.put.fits, line_some c.in-Given.r)
+pub loop-pen-smaller : goal.loop-pen-smaller
+loop-pen-smaller c =
+    omega (arith, c.put_record.ensures.put.put.next, c.put_record.ensures.put.put.same, c.put_record.ensures.put.put.fits, line_some c.in-Ok.given.«record»)
 
 pub returns : goal.returns
 returns c =
-    logged_as c.start-sum.ensures (logging_end _ _ _ _ _ _ _ _ _ _ _ _ _ _ (summed _ _ _ _ _ _ _ (c.total_of-2.ensures ∙ totals _ _ c.loop-out.invariant.2) c.loop-out.invariant.1) (no_room _ _ _ _ _ (omega arith)))
+    logged_as c.start-sum.ensures (logging_end _ _ _ _ _ _ _ _ _ _ _ _ (summed _ _ _ _ _ _ (c.total-2.ensures ∙ totals _ _ c.loop-pen.invariant.2) c.loop-pen.invariant.1) (no_room _ _ _ _ _ (omega arith)))

@@ -1,13 +1,11 @@
 -- The loop keeps what is read and put so far, and a tally that stands for its total; it ends where the room is used up or the rule stops.
-use Prim.Native.Nat.{◌-◌}
-use lib.ListN.{length}
-use Rattle.sums.specs.declared.Total.{Total}
+use Rattle.sums.specs.Sums.{AnyTotal}
 use Rattle.tally.proofs.Laws.{StandsFor}
-use Rattle.runlog.proofs.Logs.{Logging}
+use Rattle.runlog.proofs.Logs.{Logging, room_of}
 use Rattle.runlog.proofs.log_records.Given as goal
 
-abbrev pub invariant-loop-out : goal.invariant-loop-out
-invariant-loop-out l = (t : Total) × Logging l.last l.initial.cur l.src l.from l.initial.out l.at l.initial.sum.far l.out l.cur l.f l.a l.count t × StandsFor l.sum t
+abbrev pub invariant-loop-pen : goal.invariant-loop-pen
+invariant-loop-pen l = (t : AnyTotal) × Logging l.last l.initial.cur l.src l.from l.initial.pen l.initial.sum.far l.pen l.cur l.f l.count t × StandsFor l.sum t
 
-abbrev pub decreases-loop-out : goal.decreases-loop-out
-decreases-loop-out l = length l.out - l.a
+abbrev pub decreases-loop-pen : goal.decreases-loop-pen
+decreases-loop-pen l = room_of l.pen

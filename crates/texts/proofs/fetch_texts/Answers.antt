@@ -1,28 +1,29 @@
 -- The header first; then the texts of one that was opened.
-use mathlib.Core.Path.{sym, ap, ◌∙◌}
-use lib.Seq.{length-take-le}
-use Rattle.rules.specs.Rule.{map_read}
-use Rattle.metadata.proofs.HeaderReads.{read_stopped, never_finished, read_opened, fits}
-use Rattle.fetch.specs.Fetch.{outcome_of}
-use Rattle.texts.proofs.Laws.{eight_opens, all_stopped, all_text, answered, none_passed, some_passed, all_passed_lem}
+use Rattle.std.proofs.Common.{sym, ◌∙◌}
+use Rattle.std.proofs.lemmas.Bool.{leb-true, leb-false}
+use Rattle.std.proofs.lemmas.Result.{err_from_is_err_and}
+use Rattle.texts.specs.Eight.{Texts}
+use Rattle.texts.proofs.Laws.{opening_refused, room_refused, texts_laid}
 use Rattle.texts.proofs.fetch_texts.Goals as goal
 
-pub refusal_of-requires : goal.refusal_of-requires
-refusal_of-requires c = never_finished _ _ _ _ c.open_header-o.ensures c.in-Stopped.is
+pub returns-in_err-d : goal.returns-in_err-d
+returns-in_err-d c =
+    let old : Texts = record { bytes = c.args.out.now; starts = c.args.starts.now; lengths = c.args.lengths.now } in
+    let p = err_from_is_err_and c.from_residual.result c.from_residual.ensures.1 in
+    let t = opening_refused c.args.kind c.args.s.now old c.in_err-d.ensures.refused in
+    rw (p.1, p.2) (record { texts = t.0; replaced = t.1 })
 
-pub slice_bounds-fetch_all-end : goal.slice_bounds-fetch_all-end
-slice_bounds-fetch_all-end c = sym (length-take-le _ _ (fits _ _ _ _ c.open_header-o.ensures c.in-Header.is).1)
+pub returns-then-not-fit : goal.returns-then-not-fit
+returns-then-not-fit c =
+    let old : Texts = record { bytes = c.args.out.now; starts = c.args.starts.now; lengths = c.args.lengths.now } in
+    let t = room_refused c.args.kind c.args.s.now old c.in_ok-d.d c.in_ok-d.ensures.opened (leb-false _ _ (sym c.fit.ensures ∙ c.if-not-fit.true)) in
+    record { texts = t.0; replaced = t.1 }
 
-pub fetch_all-requires : goal.fetch_all-requires
-fetch_all-requires c = (fits _ _ _ _ c.open_header-o.ensures c.in-Header.is).0.described
+pub lay_out-requires : goal.lay_out-requires
+lay_out-requires c = leb-true _ _ (sym c.fit.ensures ∙ c.if-not-fit.false)
 
-pub returns-in-Stopped : goal.returns-in-Stopped
-returns-in-Stopped c =
-    let f = answered c.refused.result c.refused.ensures.0 (all_stopped _ (eight_opens _ _ ∙ ap (map_read _) (read_stopped _ _ _ _ c.open_header-o.ensures c.in-Stopped.is)) c.refusal_of.ensures) in
-    record { texts = f; replaced = c.refused.ensures.1 ∙ none_passed c.args.kind c.args.s.now c.refused.result.answer c.refused.ensures.0 ∙ all_passed_lem c.args.kind c.args.s.now f }
-
-pub returns-in-Header : goal.returns-in-Header
-returns-in-Header c =
-    let o = read_opened _ _ _ _ c.open_header-o.ensures c.in-Header.is in
-    let f = all_text (eight_opens _ _ ∙ ap (map_read _) o) c.fetch_all.ensures.texts in
-    record { texts = f; replaced = c.fetch_all.ensures.replaced ∙ some_passed c.args.kind c.args.s.now (outcome_of c.fetch_all.result.answer) _ _ o ∙ all_passed_lem c.args.kind c.args.s.now f }
+pub returns : goal.returns
+returns c =
+    let old : Texts = record { bytes = c.args.out.now; starts = c.args.starts.now; lengths = c.args.lengths.now } in
+    let t = texts_laid c.args.kind c.args.s.now old c.in_ok-d.d c.in_ok-d.ensures.opened c.lay_out.result _ (leb-true _ _ (sym c.fit.ensures ∙ c.if-not-fit.false)) c.lay_out.ensures in
+    record { texts = t.0; replaced = t.1 }

@@ -1,41 +1,22 @@
 -- The second pass, with room for all of it.
+use mathlib.Core.Path.{sym, ap, subst}
 use native.Mathlib.Omega.{arith}
-use Rattle.utf16.proofs.Units.{put_starts, same, put_fits, put_on, put_done, count_starts, count_on, count_fits, count_done}
+use Rattle.utf16.proofs.Units.{Putting, Counting, put_starts, put_on, put_done, count_starts, count_on, count_fits, count_done}
 use Rattle.utf16.proofs.recode.Goals as goal
 
-pub loop-at-init : goal.loop-at-init
-loop-at-init c = (put_starts _ _, count_starts c.args.s.now)
-
-pub overflow_sub-s : goal.overflow_sub-s
-overflow_sub-s c = c.loop-at.invariant.0.pass.room
-
-pub piece_at-p-requires : goal.piece_at-p-requires
-piece_at-p-requires c = omega (arith, c.loop-at.invariant.0.pass.room)
-
-pub put_scalar-n-requires : goal.put_scalar-n-requires
-put_scalar-n-requires c =
-    (c.piece_at-p.ensures.small, put_fits _ _ _ _ _ c.loop-at.invariant.0 c.requires c.piece_at-p.result c.piece_at-p.ensures)
+pub loop-p-init : goal.loop-p-init
+loop-p-init c =
+    let s = c.args.s.now in
+    subst (λ r. Putting s c.args.out.now r c.args.out.now 0 × Counting s r 0) (sym (ap (λ p. p.0.now) c.into_iter-p-iterator.ensures.into_iter_gives)) (put_starts s c.args.out.now, count_starts s)
 
 pub overflow_add-replaced : goal.overflow_add-replaced
 overflow_add-replaced c =
-    record { fits = omega (arith, count_fits c.args.s.now c.loop-at.at c.loop-at.replaced c.loop-at.invariant.1 c.piece_at-p.result c.piece_at-p.ensures, c.well_formed) }
+    record { fits = omega (arith, count_fits c.args.s.now _ c.loop-p.replaced c.loop-p.invariant.1 c.in-Some.p c.in-Some.ensures.steps.0, c.well_formed) }
 
-pub overflow_add-at : goal.overflow_add-at
-overflow_add-at c =
-    record { fits = omega (arith, c.piece_at-p.ensures.fits, c.well_formed) }
-
-pub loop-at-smaller : goal.loop-at-smaller
-loop-at-smaller c = omega (arith, c.piece_at-p.ensures.fits, c.piece_at-p.ensures.moves)
-
-pub loop-at-preserved : goal.loop-at-preserved
-loop-at-preserved c = (
-  put_on _ _ _ _ _ c.loop-at.invariant.0 c.requires c.piece_at-p.result c.piece_at-p.ensures c.put_scalar-n.result c.put_scalar-n.new.out c.put_scalar-n.ensures.0 c.put_scalar-n.ensures.1,
-  count_on _ c.loop-at.at c.loop-at.replaced c.loop-at.invariant.1 c.piece_at-p.result c.piece_at-p.ensures,
-)
-
-pub shape_of-out : goal.shape_of-out
-shape_of-out c = same _ _ _ _ _ c.loop-at.invariant.0 c.requires
+pub loop-p-preserved : goal.loop-p-preserved
+loop-p-preserved c =
+    let step = c.in-Some.ensures.steps in
+    (put_on c.loop-p.invariant.0 c.requires step.0 c.put_scalar-bytes.result c.put_scalar-bytes.new.out _ step.1 c.put_scalar-bytes.ensures.0 c.put_scalar-bytes.ensures.1, count_on c.args.s.now _ c.loop-p.replaced c.loop-p.invariant.1 c.in-Some.p step.0 _ step.1)
 
 pub returns : goal.returns
-returns c =
-    record { bytes = put_done _ _ _ _ _ c.loop-at.invariant.0 c.requires (omega arith); replaced = count_done _ _ _ c.loop-at.invariant.1 (omega arith) c.loop-at.invariant.0.pass.room }
+returns c = record { bytes = put_done c.loop-p.invariant.0 c.requires c.in-None.ensures.steps; replaced = count_done _ _ _ c.loop-p.invariant.1 c.in-None.ensures.steps }

@@ -1,11 +1,6 @@
 -- The second pass, with room for all of it.
-use Prim.Native.Nat.{◌-◌}
-use lib.ListN.{length}
 use Rattle.utf16.proofs.Units.{Putting, Counting}
 use Rattle.utf16.proofs.recode.Given as goal
 
-abbrev pub invariant-loop-at : goal.invariant-loop-at
-invariant-loop-at l = Putting l.s l.initial.out l.out l.at l.n × Counting l.s l.at l.replaced
-
-abbrev pub decreases-loop-at : goal.decreases-loop-at
-decreases-loop-at l = length l.s - l.at
+abbrev pub invariant-loop-p : goal.invariant-loop-p
+invariant-loop-p l = Putting l.s l.initial.out l.p-iterator.0.now l.out l.bytes × Counting l.s l.p-iterator.0.now l.replaced

@@ -1,7 +1,0 @@
--- Two bytes, joined.
-use mathlib.Core.Path.{sym, ◌∙◌}
-use Rattle.common.proofs.Laws.{le_bytes}
-use Rattle.common.proofs.le_u16.Goals as goal
-
-pub returns : goal.returns
-returns c = let i = c in c.join16.ensures ∙ sym (le_bytes i.args.s.now i.args.at i.requires)

@@ -1,7 +1,0 @@
--- Two halves, joined.
-use native.Mathlib.Omega.{arith}
-use Rattle.common.proofs.Laws.{le_halves}
-use Rattle.common.proofs.le_u64.Goals as goal
-
-pub returns : goal.returns
-returns c = let i = c in omega (arith, le_halves i.args.s.now i.args.at 4 4 i.requires)

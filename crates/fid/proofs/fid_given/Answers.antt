@@ -1,5 +1,0 @@
--- The record and the state are what the definition makes of the value.
-use Rattle.fid.proofs.fid_given.Goals as goal
-
-pub returns : goal.returns
-returns c = rw c.trace_point-record.ensures

@@ -1,7 +1,0 @@
--- Behind the end nothing stands.
-use mathlib.Core.Path.{sym}
-use lib.ListN.{get_or-eq_default}
-use Rattle.items.proofs.char_at.Goals as goal
-
-pub returns : goal.returns
-returns c = sym (get_or-eq_default c.args.t.now 0 c.if-at-t.false)
