@@ -1,4 +1,5 @@
 // The lines of a log, put by a pen.
+// Kept: (d) no `write!`: it says what it wrote only with an Ok, which no clause promises (see digits), so that each line could fail.
 #![tactic(auto)]
 
 ghost use Rattle.std.specs.Prelude.{◌+◌, ◌≤◌, [], ◌∷◌, length};

@@ -42,9 +42,15 @@ pub fn log_records(
     let mut f = from;
     let mut count: usize = 0;
     let mut sum = Tally::start(total);
-    while pen.out.len() - pen.at >= 70 {
+    // A pen of its own, which no byte that is put can change: so the compiler keeps its index in a register.
+    let mut own = Pen {
+        out: &mut *pen.out,
+        at: pen.at,
+    };
+    while own.out.len() - own.at >= 70 {
         match chemstation::next_record(cur, &src[f..], last) {
             Err(z) => {
+                pen.at = own.at;
                 return Logged {
                     state: cur,
                     from: f,
@@ -55,13 +61,14 @@ pub fn log_records(
             }
             Ok(given) => {
                 sum = sum.add(given.record.unscaled());
-                lines::put_record(pen, given.record);
+                lines::put_record(&mut own, given.record);
                 cur = given.state;
                 f += given.bytes;
                 count += 1;
             }
         }
     }
+    pen.at = own.at;
     Logged {
         state: cur,
         from: f,

@@ -1,5 +1,5 @@
 -- By the power of ten below it; 0 has one place.
-use Rattle.std.proofs.Common.{refl, sym, ap, ◌∙◌, add-one, arith}
+use Rattle.std.proofs.Common.{sym, ap, ◌∙◌, add-one, arith}
 use Rattle.digits.specs.Numbers.{places}
 use Rattle.digits.proofs.Digits.{places_between}
 use Rattle.digits.proofs.count_places.Goals as goal
