@@ -37,6 +37,7 @@ fn array_given(st: ChemstationArrayState, x: f64, n: usize) -> Result<Given, Sto
 }
 
 // The next record of an array.
+#[tactic(auto, using(crate::proofs::ArrayLaws::array_none))]
 pub fn array_next(st: ChemstationArrayState, s: &[u8], last: bool) -> Result<Given, Stopped>
     ensures { answer_of result ≡ read last (rule_by (State.Array st) (array_rule st)) s.now }
 {

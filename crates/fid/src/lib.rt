@@ -54,6 +54,7 @@ fn fid_slope(st: ChemstationFidState, v: i16) -> Result<Given, Stopped>
 }
 
 // The next record of FID.
+#[tactic(auto, using(crate::proofs::FidLaws::fid_none, crate::proofs::FidLaws::fid_cut, crate::proofs::FidLaws::fid_restart_cut, crate::proofs::FidLaws::fid_restarts, crate::proofs::FidLaws::fid_slopes, crate::proofs::FidLaws::passed_on))]
 pub fn fid_next(st: ChemstationFidState, s: &[u8], last: bool) -> Result<Given, Stopped>
     ensures { answer_of result ≡ read last (rule_by (State.Fid st) (fid_rule st)) s.now }
 {

@@ -28,6 +28,7 @@ const LAST_POINT: usize = POINT + 10;
 const EMPTY_SCAN: usize = HEAD + 10;
 
 // The lower fourteen bits, times 8 to the power of the upper two.
+#[tactic(auto, using(crate::proofs::MsLaws::shifted))]
 fn ms_intensity(raw: u16) -> f64
     ensures { result ≡ double (raw % 16384 * 8 ^ (raw / 16384)) }
 {
@@ -45,6 +46,8 @@ fn ms_given(st: ChemstationMsState, mz: u16, value: f64, n: usize) -> Result<Giv
         mz: f64::from(mz) / 20.0,
         unscaled: value,
         scaled: value,
+        // Kept: (d) two fields in place of a helper: it would answer a pair, and `let (minutes, leftover) = ..` would say no more and hide
+        // which of the two is which.
         minutes: st.stored_time / 60000,
         leftover: st.stored_time % 60000,
     };
@@ -60,6 +63,7 @@ fn ms_given(st: ChemstationMsState, mz: u16, value: f64, n: usize) -> Result<Giv
 }
 
 // A point, and the footer if it is its scan's last. The value before it makes no difference.
+#[tactic(auto, using(crate::proofs::MsLaws::point_cut, crate::proofs::MsLaws::point_inner, crate::proofs::MsLaws::point_last, crate::proofs::MsLaws::footer_cut))]
 fn ms_point(st: ChemstationMsState, s: &[u8], at: usize, last: bool) -> Result<Given, Stopped>
     requires { (at ≤ length s.now) × (0 < st.n_scans_left.0) × (0 < st.n_mzs_left.0) }
     ensures { (v : Sum Float) → answer_of result ≡ map_read (stepped v) (read_at last (ms_point st.n_scans_left st.n_mzs_left st.cur_time st.stored_time) at s.now) }
@@ -88,6 +92,7 @@ fn ms_point(st: ChemstationMsState, s: &[u8], at: usize, last: bool) -> Result<G
 }
 
 // A scan whose count, already read, makes so many points.
+#[tactic(auto, using(crate::proofs::MsLaws::filled_cut, crate::proofs::MsLaws::filled_point))]
 fn ms_scan(scans: Scans, points: Points, s: &[u8], at: usize, last: bool) -> Result<Given, Stopped>
     requires { (at + 2 ≤ length s.now) × (0 < scans.0) × (0 < points.0) × (points.0 ≡ (be (part at 2 s.now) - 14) / 2) }
     ensures { (v : Sum Float) → answer_of result ≡ map_read (stepped v) (read_at last (ms_scans scans.0) at s.now) }
@@ -107,6 +112,7 @@ fn ms_scan(scans: Scans, points: Points, s: &[u8], at: usize, last: bool) -> Res
 }
 
 // The first point of the next scan that has any: the empty ones are passed over.
+#[tactic(auto, using(crate::proofs::MsLaws::none_due, crate::proofs::MsLaws::count_cut, crate::proofs::MsLaws::count_refused, crate::proofs::MsLaws::empty_cut, crate::proofs::MsLaws::empty_passed))]
 fn ms_scans(due: Scans, s: &[u8], last: bool) -> Result<Given, Stopped>
     ensures { (v : Sum Float) → answer_of result ≡ map_read (stepped v) (read_at last (ms_scans due.0) 0 s.now) }
 {

@@ -55,6 +55,7 @@ fn mwd_point(
 }
 
 // The next record of MWD.
+#[tactic(auto, using(crate::proofs::MwdLaws::mwd_none, crate::proofs::MwdLaws::mwd_within, crate::proofs::MwdLaws::mwd_cut, crate::proofs::MwdLaws::mwd_ends, crate::proofs::MwdLaws::mwd_group))]
 pub fn mwd_next(st: ChemstationMwdState, s: &[u8], last: bool) -> Result<Given, Stopped>
     ensures { answer_of result ≡ read last (rule_by (State.Mwd st) (mwd_rule st)) s.now }
 {

@@ -49,6 +49,7 @@ fn record_type(h: &[u8]) -> ChemstationArrayRecordType
 
 // The states before the first record, in the order of the Rust's files.
 
+#[tactic(auto, using(crate::proofs::Constants::zero_is, crate::proofs::Constants::fifth_is))]
 fn fid_state(d: ChemstationMetadata) -> State
     ensures { result ≡ fid_begins d }
 {
@@ -62,6 +63,7 @@ fn fid_state(d: ChemstationMetadata) -> State
     })
 }
 
+#[tactic(auto, using(crate::proofs::Constants::zero_is))]
 fn ms_state(scans: Scans) -> State
     ensures { result ≡ ms_begins scans }
 {
@@ -74,6 +76,7 @@ fn ms_state(scans: Scans) -> State
     })
 }
 
+#[tactic(auto, using(crate::proofs::Constants::zero_is, crate::proofs::Constants::fifth_is))]
 fn mwd_state(d: ChemstationMetadata) -> State
     ensures { result ≡ mwd_begins d }
 {
@@ -87,6 +90,7 @@ fn mwd_state(d: ChemstationMetadata) -> State
     })
 }
 
+#[tactic(auto, using(crate::proofs::Constants::zero_is))]
 fn dad_state(scans: Scans) -> State
     ensures { result ≡ dad_begins scans }
 {
@@ -101,6 +105,7 @@ fn dad_state(scans: Scans) -> State
     })
 }
 
+#[tactic(auto, using(crate::proofs::Constants::zero_is))]
 fn uv_state(scans: Scans, mult: f64) -> State
     ensures { result ≡ uv_begins scans mult }
 {
@@ -116,6 +121,7 @@ fn uv_state(scans: Scans, mult: f64) -> State
     })
 }
 
+#[tactic(auto, using(crate::proofs::Constants::zero_is))]
 fn array_state(h: &[u8], d: ChemstationMetadata, scans: Scans, step: f64) -> State
     requires { 4126 ≤ length h.now }
     ensures { result ≡ array_begins (record { bytes = h.now; says = d; scans = scans.0; step = step }) }
@@ -147,6 +153,7 @@ fn first_state(kind: Kind, h: &[u8], d: ChemstationMetadata, scans: Scans, step:
 }
 
 // Opens a run: its header, what it says, and the state before the first record.
+#[tactic(auto, using(std::proofs::lemmas::Result::err_from_is_err_and, rules::proofs::Laws::read_map, metadata::proofs::HeaderReads::read_stopped, metadata::proofs::HeaderReads::read_opened))]
 pub fn open_run(kind: u8, s: &[u8], last: bool) -> Result<OpenedRun, Stopped>
     ensures { OpensRun kind last s.now result }
 {

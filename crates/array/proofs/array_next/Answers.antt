@@ -3,11 +3,8 @@ use mathlib.Core.Path.{sym, ap, ◌∙◌}
 use native.Mathlib.Omega.{arith}
 use Rattle.rules.specs.Rule.{stops}
 use Rattle.array.specs.Array.{stored}
-use Rattle.array.proofs.ArrayLaws.{array_none, array_cut, array_gives}
+use Rattle.array.proofs.ArrayLaws.{array_cut, array_gives}
 use Rattle.array.proofs.array_next.Goals as goal
-
-pub returns-then-st-eq0 : goal.returns-then-st-eq0
-returns-then-st-eq0 c = sym (array_none c.args.st c.args.last c.args.s.now c.if-st-eq0.true)
 
 pub returns-then-s-lt4 : goal.returns-then-s-lt4
 returns-then-s-lt4 c =

@@ -1,19 +1,11 @@
--- The header's answer, and for a header that was opened the state that its kind begins with.
+-- A header that was opened is of a known kind, within the bytes, and as long as an array asks.
 use mathlib.Core.Path.{◌≡◌, sym, ◌∙◌}
 use mathlib.Core.Bool.{false, false≢true}
 use borrow.Author.Tests.{le-leb}
 use lib.Seq.{length-take-le}
-use Rattle.std.proofs.lemmas.Result.{err_from_is_err_and}
-use Rattle.rules.proofs.Laws.{read_map}
 use Rattle.agilent.specs.Header.{known}
-use Rattle.metadata.proofs.HeaderReads.{read_stopped, read_opened, fits}
+use Rattle.metadata.proofs.HeaderReads.{fits}
 use Rattle.opening.proofs.open_run.Goals as goal
-
-pub returns-in_err-header : goal.returns-in_err-header
-returns-in_err-header c =
-    let p = err_from_is_err_and c.from_residual.result c.from_residual.ensures.1 in
-    let q = read_stopped c.args.last c.args.kind c.args.s.now c.open_header.result c.open_header.ensures c.in_err-header.was in
-    rw (p.1, p.2) (record { state = rw (read_map, q); says = rw (read_map, q) })
 
 -- a header that was opened is of a known kind
 pub returns-in_err-kind : goal.returns-in_err-kind
@@ -31,8 +23,3 @@ pub first_state-state-requires : goal.first_state-state-requires
 first_state-state-requires c =
     let f = fits c.args.last c.args.kind c.args.s.now c.open_header.result c.open_header.ensures c.in_ok-header.was in
     λ six. f.0.step (sym c.in_ok-kind.ensures ∙ six)
-
-pub returns : goal.returns
-returns c =
-    let q = read_opened c.args.last c.args.kind c.args.s.now c.open_header.result c.open_header.ensures c.in_ok-header.was in
-    record { state = rw (read_map, q, c.first_state-state.ensures, c.in_ok-kind.ensures); says = rw (read_map, q) }
