@@ -14,7 +14,6 @@ use Rattle.error.specs.Number.{stop_of, stop_number, closing_number}
 use Rattle.metadata.specs.Metadata.{Header}
 use Rattle.fetch.specs.Fetch.{outcome_of, Fetches}
 use Rattle.texts.specs.Eight.{Texts, FetchesAll}
-use Rattle.metadata.specs.declared.ChemstationMetadata.{ChemstationMetadata}
 use Rattle.std.specs.Prelude.{Result}
 use Rattle.error.specs.declared.Refusal.{Refusal}
 use Rattle.fetch.specs.declared.FetchedText.{FetchedText}
@@ -71,6 +70,10 @@ pub opens_into : {mode : Mode} {kind : ℕ} {last : Bool} {s : List ℕ} {r : Re
     OpensInto mode kind (read last (open_by mode kind) s) (opening_number a) (record { entry = old; exit = opening_memory a old })
 opens_into {mode = mode} {kind} {last} {s} {r = r} a old o e =
     opened_into mode kind _ a old (begun mode kind last s) (ap start_read (sym e) ∙ state_of_lem o) (ap says_read (sym e) ∙ says_of o)
+
+-- the same memory, said otherwise
+pub opens_held : {mode : Mode} {kind n : ℕ} {x : Read Header} {old new held : Run} → new ≡ held → OpensInto mode kind x n (record { entry = old; exit = held }) → OpensInto mode kind x n (record { entry = old; exit = new })
+opens_held {mode} {kind} {n} {x} {old} e o = subst (λ m. OpensInto mode kind x n (record { entry = old; exit = m })) (sym e) o
 
 -- ---- Fetch a text
 

@@ -9,5 +9,5 @@ returns-in_default c =
 
 pub returns : goal.returns
 returns c =
-    rw (c.closing_number.ensures, c.from-after.ensures)
+    rw (c.into-2.ensures ∙ c.from.ensures, c.from-after.ensures)
     (fills_into _ _ _ _ _ _ _ (sym c.state.ensures ∙ c.in-Some.is) c.fill_slices-f.ensures)
