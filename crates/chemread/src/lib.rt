@@ -213,6 +213,7 @@ pub extern "C" fn chemstation_open_atlas(
 // ---- Fetch a text
 
 // A text by its number, from the bytes of a whole file. A refusal writes nothing of it; the units replaced, 0 on a refusal, are written always.
+#[tactic(auto, using(crate::proofs::Calls::fetches_into))]
 #[unsafe(no_mangle)]
 pub extern "C" fn chemstation_text(
     kind: u8,
@@ -240,6 +241,7 @@ pub extern "C" fn chemstation_text(
 
 // All eight texts, one behind the other in one buffer, from the bytes of a whole file. A refusal writes nothing of them; the units replaced in
 // each, 0s on a refusal, are written always.
+#[tactic(auto, using(crate::proofs::Calls::texts_into))]
 #[unsafe(no_mangle)]
 pub extern "C" fn chemstation_texts(
     kind: u8,
@@ -269,6 +271,7 @@ pub extern "C" fn chemstation_texts(
 
 // Records until the columns are full or another answer comes; the state behind the last is stored back, its reading stays. Numbers that
 // hold no state are refused.
+#[tactic(auto, using(crate::proofs::Calls::fills_nothing))]
 #[unsafe(no_mangle)]
 pub extern "C" fn chemstation_fill(
     numbers: &mut [f64; 6],
@@ -313,6 +316,7 @@ pub extern "C" fn chemstation_fill(
 // ---- the sum of a column
 
 // Adds the values of a column to a sum, one behind the other. A refusal writes nothing.
+#[tactic(auto, using(crate::proofs::Calls::sums_into))]
 #[unsafe(no_mangle)]
 pub extern "C" fn chemstation_sum(values: &[f64], sum: &mut i64) -> u8
     ensures { SumsInto (total_from (Some (Ok sum.old)) values.now) result sum.old sum.new }
