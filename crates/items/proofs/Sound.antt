@@ -19,7 +19,7 @@ use Rattle.items.specs.declared.Found.{Found}
 use Rattle.items.specs.Items.{passed as passed_of, valued, is_digit, lower, starts, ranged, two as two_of, one_or_two, month_names, month_named, half, stands_at}
 use Rattle.items.specs.Writing.{digit_char, AnyCase, none, Writes, sign, two, one, or_two, month, am, pm, plus, minus}
 use Rattle.items.proofs.Items.{digit_least, digit_most}
-use Rattle.items.proofs.Letters.{cased, spelled, third_letter}
+use Rattle.items.proofs.Letters.{cased, spelled, short_of_month}
 
 -- the first n characters of a text write a value of an item
 pub record Stands (i : Item) (v : List ℕ) (n : ℕ) (t : List ℕ) : Type 0 where
@@ -108,9 +108,8 @@ half_stood (a ∷ b ∷ t) =
     (λ q. either (eqb (lower a) 112) (λ p. value (there t (pm (cased a 112 (eqb-true (lower a) 112 p) m)) refl)) (λ f. nothing)))
     (λ f. nothing)
 
--- a text of fewer than three characters has no name
 short_month : (a b : ℕ) (t : List ℕ) → Stood MonthName t (ranged 1 12 (month_named a b 0) 3)
-short_month a b t = either (within 1 12 (month_named a b 0)) (λ e. absurd (omega (arith, third_letter a b 0 e))) (λ f. nothing)
+short_month a b t = rw (← short_of_month a b) nothing
 
 month_stood : (t : List ℕ) → Stood MonthName t (ranged 1 12 (month_named (lower (get_or t 0 0)) (lower (get_or t 1 0)) (lower (get_or t 2 0))) 3)
 month_stood [] = short_month _ _ []
