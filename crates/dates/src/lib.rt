@@ -91,16 +91,16 @@ fn values_of(form: Form, t: &[u8]) -> Option<[u8; 16]>
     // Kept: the programs and the C library use no heap, so the n values lie in an array of a fixed size, with zeros behind them.
     let mut values = [0u8; 16];
     let mut n: usize = 0;
-    let mut at: usize = 0;
+    let mut rest = t;
     for item in items_of(form) {
-        let found = item_at(*item, &t[at..])?;
-        at += found.width;
+        let found = item_at(*item, rest)?;
+        rest = &rest[found.width..];
         if let Some(v) = found.value {
             values[n] = v;
             n += 1;
         }
     }
-    (at == t.len()).then_some(values)
+    rest.is_empty().then_some(values)
 }
 
 // ---- the date
