@@ -88,7 +88,7 @@ fn items_of(form: Form) -> &'static [Item]
 fn values_of(form: Form, t: &[u8]) -> Option<[u8; 16]>
     ensures { result ≡ option_map padded (values_of (items_of form) t.now) }
 {
-    // Kept: the programs and the C library use no heap, so the n values lie in an array of a fixed size, with zeros behind them.
+    // Kept: (a) the programs and the C library use no heap, so the n values lie in an array of a fixed size, with zeros behind them.
     let mut values = [0u8; 16];
     let mut n: usize = 0;
     let mut rest = t;
