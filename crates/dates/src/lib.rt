@@ -85,7 +85,7 @@ fn items_of(form: Form) -> &'static [Item]
 // ---- a form
 
 // The values of the items of a form, one behind the other, if the text has that form. No form has more than 15 items.
-#[tactic(auto, using(crate::proofs::Walk::begun, crate::proofs::Walk::not_found, crate::proofs::Walk::ends, crate::proofs::Walk::ended, crate::proofs::Walk::most_items))]
+#[tactic(auto, using(crate::proofs::Walk::begun, crate::proofs::Walk::not_found, crate::proofs::Walk::ends, crate::proofs::Walk::on_passed, crate::proofs::Walk::on_value, crate::proofs::Walk::ended, crate::proofs::Walk::most_items))]
 fn values_of(form: Form, t: &[u8]) -> Option<ArrayVec<u8, 15>>
     ensures { option_map (λ v. v.items) result ≡ values_of (items_of form) t.now }
 {
