@@ -1,46 +1,11 @@
--- Each answer is what the rule of a header reads of the bytes that are there.
-use mathlib.Core.Path.{sym, ap, ap₂, ◌∙◌}
-use native.Mathlib.Omega.{arith}
+-- A number that no kind has is refused before any byte is due.
+use mathlib.Core.Path.{sym}
 use Rattle.std.proofs.lemmas.Result.{err_from_is_err_and}
-use Rattle.rules.specs.Rule.{got, stops}
-use Rattle.error.specs.Number.{stop_of}
-use Rattle.agilent.specs.Header.{size_of}
-use Rattle.agilent.proofs.HeaderLaws.{is_known, size_unknown, size_short, size_word, size_small, size_large, size_cut, size_whole}
+use Rattle.agilent.proofs.HeaderLaws.{size_unknown}
 use Rattle.agilent.proofs.read_agilent_header.Goals as goal
 
-pub returns-in_err-kind : goal.returns-in_err-kind
-returns-in_err-kind c =
+pub returns-in_err-try_from : goal.returns-in_err-try_from
+returns-in_err-try_from c =
     let p = err_from_is_err_and c.from_residual.result c.from_residual.ensures.1 in
-    let e = c.in_err-kind.ensures in
+    let e = c.in_err-try_from.ensures in
     rw (p.1, p.2, e.0) (sym (size_unknown c.args.kind c.args.last c.args.s.now e.1))
-
-pub returns-then-s-lt268 : goal.returns-then-s-lt268
-returns-then-s-lt268 c =
-    ap stops c.lacking.ensures ∙ sym (size_short c.args.kind c.args.last c.args.s.now (is_known _ c.in_ok-kind.ensures) (omega arith))
-
-pub returns-then-word-eq0 : goal.returns-then-word-eq0
-returns-then-word-eq0 c =
-    ap (λ z. stops (stop_of z)) c.into.ensures ∙ sym (size_word c.args.kind c.args.last c.args.s.now (is_known _ c.in_ok-kind.ensures) (omega arith) (omega arith))
-
-pub returns-then-size-lt-SMALLEST : goal.returns-then-size-lt-SMALLEST
-returns-then-size-lt-SMALLEST c =
-    let z = c.header_size-size.ensures ∙ ap₂ size_of c.in_ok-kind.ensures c.be_at-word.ensures in
-    ap (λ z. stops (stop_of z)) c.into-then-size-lt-SMALLEST.ensures
-    ∙ sym (size_small c.args.kind c.args.last c.args.s.now (is_known _ c.in_ok-kind.ensures) (omega arith) (omega arith) (omega arith))
-
-pub returns-then-size-gt-LARGEST : goal.returns-then-size-gt-LARGEST
-returns-then-size-gt-LARGEST c =
-    let z = c.header_size-size.ensures ∙ ap₂ size_of c.in_ok-kind.ensures c.be_at-word.ensures in
-    ap (λ z. stops (stop_of z)) c.into-then-size-gt-LARGEST.ensures
-    ∙ sym (size_large c.args.kind c.args.last c.args.s.now (is_known _ c.in_ok-kind.ensures) (omega arith) (omega arith) (omega arith))
-
-pub returns-then-s-size : goal.returns-then-s-size
-returns-then-s-size c =
-    let z = c.header_size-size.ensures ∙ ap₂ size_of c.in_ok-kind.ensures c.be_at-word.ensures in
-    ap stops c.lacking-then-s-size.ensures
-    ∙ sym (size_cut c.args.kind c.args.last c.args.s.now (is_known _ c.in_ok-kind.ensures) (omega arith) (omega arith) (omega arith) (omega arith) (omega arith))
-
-pub returns-else-s-size : goal.returns-else-s-size
-returns-else-s-size c =
-    let z = c.header_size-size.ensures ∙ ap₂ size_of c.in_ok-kind.ensures c.be_at-word.ensures in
-    ap₂ got z z ∙ sym (size_whole c.args.kind c.args.last c.args.s.now (is_known _ c.in_ok-kind.ensures) (omega arith) (omega arith) (omega arith) (omega arith) (omega arith))

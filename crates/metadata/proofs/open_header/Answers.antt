@@ -1,47 +1,11 @@
--- The kind first, then the header's bytes; of a whole header, the rest of the rule says what is opened.
-use mathlib.Core.Path.{sym, ap, ◌∙◌}
-use native.Mathlib.Nat.{sub-zero}
-use lib.ListN.{take}
-use lib.Seq.{length-take-le}
+-- A number that no kind has is refused before any byte is due.
+use mathlib.Core.Path.{sym}
 use Rattle.std.proofs.lemmas.Result.{err_from_is_err_and}
-use Rattle.rules.specs.Rule.{got}
-use Rattle.agilent.proofs.HeaderLaws.{size_unknown, header_stops, header_gives}
-use Rattle.metadata.proofs.Opens.{open_reads, open_refused, open_gives}
-use Rattle.metadata.proofs.HeaderReads.{says_size}
+use Rattle.metadata.proofs.Opens.{open_unknown}
 use Rattle.metadata.proofs.open_header.Goals as goal
 
-pub returns-in_err-known : goal.returns-in_err-known
-returns-in_err-known c =
+pub returns-in_err-try_from : goal.returns-in_err-try_from
+returns-in_err-try_from c =
     let p = err_from_is_err_and c.from_residual.result c.from_residual.ensures.1 in
-    let e = c.in_err-known.ensures in
-    rw (p.1, p.2, e.0) (sym (open_reads _ _ _ (header_stops c.args.kind c.args.last c.args.s.now _ (sym (size_unknown c.args.kind c.args.last c.args.s.now e.1)))))
-
-pub returns-in_err-size : goal.returns-in_err-size
-returns-in_err-size c =
-    let p = err_from_is_err_and c.from_residual-in_err-size.result c.from_residual-in_err-size.ensures.1 in
-    rw (p.1, p.2) (sym (open_reads _ _ _ (header_stops c.args.kind c.args.last c.args.s.now _ c.in_err-size.ensures)))
-
-pub slice_bounds-from_header-end : goal.slice_bounds-from_header-end
-slice_bounds-from_header-end c =
-    let g = header_gives c.args.kind c.args.last c.args.s.now _ c.in_ok-size.ensures in g.2
-
-pub from_header-requires : goal.from_header-requires
-from_header-requires c =
-    let g = header_gives c.args.kind c.args.last c.args.s.now _ c.in_ok-size.ensures in
-    rw (sub-zero, length-take-le _ c.args.s.now g.2) g.1
-
-pub returns-in_err-opened : goal.returns-in_err-opened
-returns-in_err-opened c =
-    let g = header_gives c.args.kind c.args.last c.args.s.now _ c.in_ok-size.ensures in
-    let p = err_from_is_err_and c.from_residual-in_err-opened.result c.from_residual-in_err-opened.ensures.1 in
-    let o = rw (c.in_ok-known.ensures, sub-zero) at c.in_err-opened.ensures in
-    rw (p.1, p.2) (sym (open_refused c.args.kind c.args.last c.args.s.now _ g.0 (sym o)))
-
-pub returns : goal.returns
-returns c =
-    let g = header_gives c.args.kind c.args.last c.args.s.now _ c.in_ok-size.ensures in
-    let o = simp (c.in_ok-known.ensures, sub-zero) at c.in_ok-opened.ensures in
-    let x = c.in_ok-opened.opened in
-    let m = says_size c.args.kind _ (sym o) ∙ length-take-le _ c.args.s.now g.2 in
-    ap (λ n. got (record { bytes = take n c.args.s.now; says = x.metadata; scans = x.scans; step = x.time_step }) n) m
-    ∙ sym (open_gives c.args.kind c.args.last c.args.s.now _ g.0 (sym o))
+    let e = c.in_err-try_from.ensures in
+    rw (p.1, p.2, e.0) (sym (open_unknown c.args.kind c.args.last c.args.s.now e.1))
