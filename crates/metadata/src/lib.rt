@@ -59,6 +59,7 @@ struct WholeHeader<'a> {
 
 impl WholeHeader<'_> {
     // The start or the end of the run, in minutes.
+    #[tactic(auto, using(crate::proofs::Constants::zero_is))]
     fn time_at(&self, at: usize) -> f64
         requires { at + 4 ≤ 512 }
         ensures { result ≡ time_at (look Nowhere clocks (edition_number self.now.edition)) at self.now.bytes.now }
@@ -79,6 +80,7 @@ impl WholeHeader<'_> {
     }
 
     // What it says, if its texts stand at these places.
+    #[tactic(auto, using(crate::proofs::Constants::zero_is, crate::proofs::Constants::one_is), unfolding(crate::specs::Metadata::described_by))]
     fn described(&self, text_starts: [usize; 8], text_lengths: [usize; 8]) -> ChemstationMetadata
         ensures { result ≡ described_by (edition_number self.now.edition) self.now.bytes.now text_starts text_lengths }
     {
@@ -98,6 +100,7 @@ impl WholeHeader<'_> {
     }
 
     // Finds its texts in the order of their numbers, then describes it.
+    #[tactic(auto, using(crate::proofs::Gathers::all, crate::proofs::Opens::texts_found))]
     fn describe(&self) -> Result<ChemstationMetadata, Refusal>
         ensures { outcome (λ d. d) result ≡ described_rule (edition_number self.now.edition) self.now.bytes.now }
     {
@@ -115,6 +118,7 @@ impl WholeHeader<'_> {
 // What a header says.
 // Kept: the 512 bytes as a `requires`, here and in `from_header`. Each is called once, and a struct that carries the fact would be
 // made in `open_header_of` and taken apart in both. (d)
+#[tactic(auto, using(std::proofs::lemmas::Result::err_from_is_err_and, layouts::proofs::Tables::no_minimum, crate::proofs::Opens::edition_unknown, crate::proofs::Opens::below_minimum, crate::proofs::Opens::past_minimum))]
 fn metadata_of(h: &[u8]) -> Result<ChemstationMetadata, Refusal>
     requires { 512 ≤ length h.now }
     ensures { outcome (λ d. d) result ≡ metadata_rule h.now }
@@ -139,6 +143,7 @@ fn time_step(h: &[u8]) -> f64
 }
 
 // Opens an array's header h that says so.
+#[tactic(auto, using(crate::proofs::Opens::array_small))]
 fn open_array(metadata: ChemstationMetadata, h: &[u8]) -> Result<OpenedHeader, Refusal>
     ensures { outcome (header_of h.now) result ≡ after_description 6 h.now metadata }
 {
@@ -156,6 +161,7 @@ fn open_array(metadata: ChemstationMetadata, h: &[u8]) -> Result<OpenedHeader, R
 }
 
 // Opens a whole header.
+#[tactic(auto, using(std::proofs::lemmas::Result::err_from_is_err_and, crate::proofs::Opens::not_described))]
 fn from_header(kind: Kind, h: &[u8]) -> Result<OpenedHeader, Refusal>
     requires { 512 ≤ length h.now }
     ensures { outcome (header_of h.now) result ≡ after_bytes (kind_number kind) h.now }
@@ -174,6 +180,7 @@ fn from_header(kind: Kind, h: &[u8]) -> Result<OpenedHeader, Refusal>
 }
 
 // Opens a run of a kind as far as its header goes: the description, the scans due and an array's time step.
+#[tactic(auto, using(std::proofs::lemmas::Result::err_from_is_err_and, agilent::proofs::HeaderLaws::header_gives, crate::proofs::Opens::open_refused))]
 pub fn open_header_of(kind: Kind, s: &[u8], last: bool) -> Result<OpenedHeader, Stopped>
     ensures { header_read s.now result ≡ read last (open_rule (kind_number kind)) s.now }
 {
@@ -183,6 +190,7 @@ pub fn open_header_of(kind: Kind, s: &[u8], last: bool) -> Result<OpenedHeader, 
 }
 
 // The same by the kind's number.
+#[tactic(auto, using(std::proofs::lemmas::Result::err_from_is_err_and, crate::proofs::Opens::open_unknown))]
 pub fn open_header(kind: u8, s: &[u8], last: bool) -> Result<OpenedHeader, Stopped>
     ensures { header_read s.now result ≡ read last (open_rule kind) s.now }
 {

@@ -51,7 +51,7 @@ fn record_type(h: &[u8]) -> ChemstationArrayRecordType
 // Kept: a function for each. The structs stand in `streams`, which knows no description to make them of, and written out in
 // `first_state` they would be some sixty lines of one match. (d)
 
-#[tactic(auto, using(crate::proofs::Constants::zero_is, crate::proofs::Constants::fifth_is))]
+#[tactic(auto, using(metadata::proofs::Constants::zero_is, crate::proofs::Constants::fifth_is))]
 fn fid_state(d: ChemstationMetadata) -> State
     ensures { result ≡ fid_begins d }
 {
@@ -65,7 +65,7 @@ fn fid_state(d: ChemstationMetadata) -> State
     })
 }
 
-#[tactic(auto, using(crate::proofs::Constants::zero_is))]
+#[tactic(auto, using(metadata::proofs::Constants::zero_is))]
 fn ms_state(scans: Scans) -> State
     ensures { result ≡ ms_begins scans }
 {
@@ -78,7 +78,7 @@ fn ms_state(scans: Scans) -> State
     })
 }
 
-#[tactic(auto, using(crate::proofs::Constants::zero_is, crate::proofs::Constants::fifth_is))]
+#[tactic(auto, using(metadata::proofs::Constants::zero_is, crate::proofs::Constants::fifth_is))]
 fn mwd_state(d: ChemstationMetadata) -> State
     ensures { result ≡ mwd_begins d }
 {
@@ -92,7 +92,7 @@ fn mwd_state(d: ChemstationMetadata) -> State
     })
 }
 
-#[tactic(auto, using(crate::proofs::Constants::zero_is))]
+#[tactic(auto, using(metadata::proofs::Constants::zero_is))]
 fn dad_state(scans: Scans) -> State
     ensures { result ≡ dad_begins scans }
 {
@@ -107,7 +107,7 @@ fn dad_state(scans: Scans) -> State
     })
 }
 
-#[tactic(auto, using(crate::proofs::Constants::zero_is))]
+#[tactic(auto, using(metadata::proofs::Constants::zero_is))]
 fn uv_state(scans: Scans, mult: f64) -> State
     ensures { result ≡ uv_begins scans mult }
 {
@@ -123,7 +123,7 @@ fn uv_state(scans: Scans, mult: f64) -> State
     })
 }
 
-#[tactic(auto, using(crate::proofs::Constants::zero_is))]
+#[tactic(auto, using(metadata::proofs::Constants::zero_is))]
 fn array_state(h: &[u8], header: OpenedHeader) -> State
     ensures { result ≡ array_begins (header_of h.now header) }
 {

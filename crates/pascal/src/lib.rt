@@ -37,6 +37,7 @@ fn get_utf16_pascal(h: &[u8], start: usize) -> Extent
     place_at(start + 1, 2 * usize::from(h[start]))
 }
 
+#[tactic(auto, using(std::proofs::lemmas::Result::err_from_is_err_and, crate::proofs::TextLaws::pascal_long, crate::proofs::TextLaws::pascal_trims))]
 fn get_pascal(h: &[u8], start: usize, width: usize) -> Result<Extent, Refusal>
     requires { (start < length h.now) × (start + width ≤ length h.now) }
     ensures { place_rule result ≡ pascal start width h.now }

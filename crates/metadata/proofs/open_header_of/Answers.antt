@@ -6,7 +6,7 @@ use Rattle.std.proofs.lemmas.Result.{err_from_is_err_and}
 use Rattle.rules.specs.Rule.{got}
 use Rattle.agilent.specs.Header.{kind_number}
 use Rattle.agilent.proofs.HeaderLaws.{header_stops, header_gives}
-use Rattle.metadata.proofs.Opens.{open_reads, open_refused, open_gives}
+use Rattle.metadata.proofs.Opens.{open_reads, open_gives}
 use Rattle.metadata.proofs.HeaderReads.{says_size}
 use Rattle.metadata.proofs.open_header_of.Goals as goal
 
@@ -24,12 +24,6 @@ pub from_header-requires : goal.from_header-requires
 from_header-requires c =
     let g = header_gives (kind_number c.args.kind) c.args.last c.args.s.now _ c.in_ok-size.ensures in
     rw (length-take-le _ c.args.s.now g.2) g.1
-
-pub returns-in_err-opened : goal.returns-in_err-opened
-returns-in_err-opened c =
-    let g = header_gives (kind_number c.args.kind) c.args.last c.args.s.now _ c.in_ok-size.ensures in
-    let p = err_from_is_err_and c.from_residual-in_err-opened.result c.from_residual-in_err-opened.ensures.1 in
-    rw (p.1, p.2) (sym (open_refused (kind_number c.args.kind) c.args.last c.args.s.now _ g.0 (sym c.in_err-opened.ensures)))
 
 pub returns : goal.returns
 returns c =
