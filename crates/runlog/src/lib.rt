@@ -1,7 +1,7 @@
 // The loop that reads records and puts their lines, and the theorem that a file has one log.
 #![tactic(auto)]
 
-ghost use Rattle.std.specs.Prelude.{◌-◌, ◌≤◌, ◌≡◌, ◌++◌, length, take, drop};
+ghost use Rattle.std.specs.Prelude.{◌-◌, ◌≤◌, length, drop};
 ghost use Rattle.runlog.specs.Runs.{logged, LoggedBy};
 ghost use Rattle.runlog.specs.Log.{OneLog};
 
@@ -47,6 +47,8 @@ pub fn log_records(
         out: &mut *pen.out,
         at: pen.at,
     };
+    // Kept: (d) each turn takes as many bytes and puts as long a line as its record has, so no range counts the turns; the reader's loop of
+    // columns ends by their length, where this one ends by the room that is left, and both are over `next_record`.
     while own.out.len() - own.at >= 70 {
         match chemstation::next_record(cur, &src[f..], last) {
             Err(z) => {
@@ -76,15 +78,6 @@ pub fn log_records(
         total: sum.total(),
         closing: Ok(()),
     }
-}
-
-// Moves the bytes of buf from one index up to another to its start, and answers how many they are.
-pub fn compact(buf: &mut [u8], from: usize, to: usize) -> usize
-    requires { (from ≤ to) × (to ≤ length buf.old) }
-    ensures { (result ≡ to - from) × (buf.new ≡ take result (drop from buf.old) ++ drop result buf.old) }
-{
-    buf.copy_within(from..to, 0);
-    to - from
 }
 
 // Nothing to compute: the contract is the theorem that every file has one log, and what the buffer's size is to it.
