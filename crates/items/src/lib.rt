@@ -10,8 +10,8 @@ ghost use Rattle.items.specs.declared.Item.TheVariants.{OneOrTwo, MonthName, Hal
 ghost use Rattle.items.specs.Items.{is_digit, digit, char_at, lower, ranged, stands_at};
 
 // What stands in a form, one behind the other. The two numbers are the least and the most.
-// Kept: (d) a struct of the two would stand in each row of a form, `Two(Bounds { least: 1, most: 31 })` for `Two(1, 31)`, and be taken apart again in
-// the one test of a range.
+// Kept: (d) a struct of the two would stand in each row of a form, `Two(Bounds { least: 1, most: 31 })` for `Two(1, 31)`, for the one test of a
+// range; `Two(1..=31)` would be no Copy, and the definitions would speak of its third field, whether it is used up.
 #[derive(Clone, Copy, Debug, PartialEq, Eq)]
 pub enum Item {
     // this character

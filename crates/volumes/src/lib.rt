@@ -59,7 +59,7 @@ fn place_of(window: Range<u32>, date: Option<u32>) -> Placed
 }
 
 // Whether the run date of a file lies in the window from one instant up to, not including, another.
-// Kept: (a) the C interface hands over the two instants, the end before the start too, which is the refusal here.
+// Kept: (a) the C interface hands over two instants, and here is refused what is no window: an end before the start.
 #[tactic(auto, unfolding(crate::specs::Volume::placed))]
 pub fn in_window(start: u32, end: u32, kind: u8, s: &[u8]) -> Result<Placed, Refusal>
     ensures { place_told result ≡ placed start end kind s.now }
