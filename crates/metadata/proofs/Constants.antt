@@ -10,7 +10,3 @@ zero_is = refl
 pub one_is : of_bits binary64 4607182418800017408 ≡ double 1
 unfolding of_int of_bits
 one_is = refl
-
-pub sixty_is : of_bits binary64 4633641066610819072 ≡ double 60
-unfolding of_int of_bits
-sixty_is = refl

@@ -1,6 +1,7 @@
--- Number by number.
-use Rattle.metadata.proofs.Constants.{sixty_is}
+-- 60.0, by its bit pattern, is the double of 60.
+use lib.Ieee.{of_int, of_bits}
 use Rattle.metadata.proofs.time_step.Goals as goal
 
 pub returns : goal.returns
-returns c = rw (c.from-second.ensures, c.be_at-2.ensures, c.from-first.ensures, c.be_at.ensures, sixty_is)
+unfolding of_int of_bits
+returns c = rw (c.from-second.ensures, c.be_at-2.ensures, c.from-first.ensures, c.be_at.ensures)
