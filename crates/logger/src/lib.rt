@@ -179,6 +179,7 @@ pub fn log_input<R: Read, W: Write, E: Write>(
 }
 
 // The same in buffers of 32,768 bytes, as the log programs have them.
+// Kept: (a) no heap: the memory is fixed, refilled and passed in parts.
 pub fn run<R: Read, W: Write, E: Write>(
     mode: Mode,
     input: &mut R,

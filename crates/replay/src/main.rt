@@ -297,9 +297,9 @@ fn read_full<R: Read>(input: &mut R, buf: &mut [u8]) -> usize
     done
 }
 
-// The next frame: how many bytes of the buffer it has, and none where the input has ended.
-fn next_frame<R: Read>(input: &mut R, buf: &mut [u8]) -> Result<Option<usize>, Fault>
-    ensures { IfOk result (λ frame. IfSome frame (λ n. n ≤ length buf.old)) }
+// The next frame, in lent memory, and none where the input has ended.
+fn next_frame<'b, R: Read>(input: &mut R, buf: &'b mut [u8]) -> Result<Option<&'b [u8]>, Fault>
+    ensures { IfOk result (λ frame. IfSome frame (λ s. length s.now ≤ length buf.old)) }
 {
     let mut head = [0u8; 4];
     match read_full(input, &mut head) {
@@ -314,14 +314,14 @@ fn next_frame<R: Read>(input: &mut R, buf: &mut [u8]) -> Result<Option<usize>, F
     if read_full(input, &mut buf[..n]) < n {
         return Err(Fault::CutFrame);
     }
-    Ok(Some(n))
+    Ok(Some(&buf[..n]))
 }
 
 // All frames. What is wrong with the input is said, so that no case is passed over in silence.
 fn replay<R: Read, W: Write>(input: &mut R, output: &mut Output<'_, '_, W>, buf: &mut [u8]) {
     for number in 0..u64::MAX {
         match next_frame(input, buf) {
-            Ok(Some(n)) => put_case(&buf[..n], number + 1, output),
+            Ok(Some(frame)) => put_case(frame, number + 1, output),
             Ok(None) => return output.write(),
             Err(fault) => return output.complain(fault),
         }
@@ -329,6 +329,7 @@ fn replay<R: Read, W: Write>(input: &mut R, output: &mut Output<'_, '_, W>, buf:
     output.complain(Fault::ManyFrames);
 }
 
+// Kept: (a) no heap: the memory for a frame and for the answers is fixed.
 fn main(rt: HostRuntime) {
     let mut buf = [0u8; 65536];
     let mut out = [0u8; 65536];
