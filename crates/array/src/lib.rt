@@ -44,6 +44,8 @@ pub fn array_next(st: ChemstationArrayState, s: &[u8], last: bool) -> Result<Giv
     if st.n_scans_left.0 == 0 {
         return Err(Stopped::Finished);
     }
+    // Kept: (d) two arms of four lines, which differ in the number's type and width: one generic function would need a bound on the type, one
+    // on `f64`, and the width as a parameter beside them, and be called in both arms.
     match st.record_type {
         ChemstationArrayRecordType::Float32Array => {
             if s.len() < 4 {

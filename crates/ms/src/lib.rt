@@ -32,8 +32,8 @@ const EMPTY_SCAN: usize = HEAD + 10;
 fn ms_intensity(raw: u16) -> f64
     ensures { result ≡ double (raw % 16384 * 8 ^ (raw / 16384)) }
 {
-    let base = raw as u32 % 16384;
-    let exponent = raw as u32 / 16384;
+    let base = u32::from(raw) % 16384;
+    let exponent = u32::from(raw) / 16384;
     f64::from(base << (3 * exponent))
 }
 
@@ -63,6 +63,8 @@ fn ms_given(st: ChemstationMsState, mz: u16, value: f64, n: usize) -> Result<Giv
 }
 
 // A point, and the footer if it is its scan's last. The value before it makes no difference.
+// Kept: (d) bytes, position and whether they are the last as three, as at `delta_at` of crate streams. And the two counts above 0 in the
+// `requires` of two functions: a type for them would be taken apart wherever they are counted down, and the state counts down to 0.
 #[tactic(auto, using(crate::proofs::MsLaws::point_cut, crate::proofs::MsLaws::point_inner, crate::proofs::MsLaws::point_last, crate::proofs::MsLaws::footer_cut))]
 fn ms_point(st: ChemstationMsState, s: &[u8], at: usize, last: bool) -> Result<Given, Stopped>
     requires { (at ≤ length s.now) × (0 < st.n_scans_left.0) × (0 < st.n_mzs_left.0) }
@@ -123,11 +125,17 @@ fn ms_scans(due: Scans, s: &[u8], last: bool) -> Result<Given, Stopped>
         }
         let count = u16::be_at(s, at);
         if count < 14 {
-            return Err(Stopped::Refused(Refusal::MsCountTooSmall));
+            return Err(Refusal::MsCountTooSmall.into());
         }
         let points = (count - 14) / 2;
         if points != 0 {
-            return ms_scan(Scans(due.0 - passed), Points(points as usize), s, at, last);
+            return ms_scan(
+                Scans(due.0 - passed),
+                Points(usize::from(points)),
+                s,
+                at,
+                last,
+            );
         }
         if s.len() - at < EMPTY_SCAN {
             return Err(lacking(last, false));

@@ -39,6 +39,8 @@ fn mwd_given(
 }
 
 // The point at a position, one of so many due.
+// Kept: (d) bytes, position and whether they are the last as three, as at `delta_at` of crate streams; and a function in each of MWD, DAD
+// and UV: two lines, of which the second is the kind's own.
 fn mwd_point(
     st: ChemstationMwdState,
     points: Points,
@@ -74,5 +76,5 @@ pub fn mwd_next(st: ChemstationMwdState, s: &[u8], last: bool) -> Result<Given, 
     if count == 0 {
         return Err(Stopped::Finished);
     }
-    mwd_point(st, Points(count as usize), s, GROUP, last)
+    mwd_point(st, Points(usize::from(count)), s, GROUP, last)
 }
