@@ -70,6 +70,7 @@ fn asked_by_all(calls: &[Call], most: usize) -> Option<usize>
 // Next record by value as a call: its record becomes row i.
 // Kept: (c) `Room` in the contracts here, of `Columns::put`, `one_call` and `calls_from`: a ghost field for it would stand in a struct made of
 // the lent columns' parts, which the checker does not cover; and it has another count of rows at each.
+// Kept: (d) what no record fills is written out here and in reader's `fill_columns`: a function for it would be as long as the two.
 fn next_row(st: State, s: &[u8], i: usize, columns: &mut Columns<'_>) -> Filled
     requires { Room (i + 1) (held columns.old) }
     ensures same { AreTheSame columns.old columns.new }
@@ -120,6 +121,7 @@ fn fill_unequal(st: State, s: &[u8]) -> Filled
 }
 
 // One call, whose rows go into the columns from row i on.
+// Kept: (d) a match on which call it is: the calls are data, and the contracts speak of lists of them, which of closures they could not.
 fn one_call(call: Call, st: State, s: &[u8], i: usize, columns: &mut Columns<'_>) -> Filled
     requires { Room (i + asks (call_of call)) (held columns.old) }
     ensures same { AreTheSame columns.old columns.new }
@@ -181,6 +183,7 @@ fn calls_from(n: usize, st: State, s: &[u8], calls: &[Call], columns: &mut Colum
 
 // Opens a file by a reading, told that its bytes are not the last, and makes the calls: N, the count of rows and Z, with the rows in the
 // lent columns.
+// Kept: (a) a number for the kind, any at all: Open refuses what is no kind, and a narrower type would ask more of the caller.
 #[tactic(auto, using(crate::proofs::Opened::opened, crate::proofs::Opened::accepted, crate::proofs::Opened::has_room, rules::proofs::Laws::taken_within))]
 pub fn make_calls(
     mode: Mode,

@@ -124,7 +124,8 @@ fn fill_equal(st: State, s: &[u8], last: bool, columns: &mut Columns<'_>) -> Fil
     let mut at: usize = 0;
     let n = columns.time.len();
     // Kept: (d) an index: it is the place in all six columns and the count that is answered; six iterators side by side would be a nest of
-    // `zip`, and still want the count.
+    // `zip`, and still want the count. And a loop beside runlog's: one for both would take a closure that puts a record and says whether there
+    // is room for the next, and answer what each answers now.
     for i in 0..n {
         match next_record(cur, &s[at..], last) {
             Err(z) => {
