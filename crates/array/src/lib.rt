@@ -37,7 +37,7 @@ fn array_given(st: ChemstationArrayState, x: f64, n: usize) -> Result<Given, Sto
 }
 
 // The next record of an array.
-#[tactic(auto, using(crate::proofs::ArrayLaws::array_none))]
+#[tactic(auto, using(crate::proofs::ArrayLaws::array_none, crate::proofs::ArrayLaws::floats_give, crate::proofs::ArrayLaws::floats_cut, crate::proofs::ArrayLaws::doubles_give, crate::proofs::ArrayLaws::doubles_cut))]
 pub fn array_next(st: ChemstationArrayState, s: &[u8], last: bool) -> Result<Given, Stopped>
     ensures { answer_of result ≡ read last (rule_by (State.Array st) (array_rule st)) s.now }
 {

@@ -127,15 +127,9 @@ fn ms_scans(due: Scans, s: &[u8], last: bool) -> Result<Given, Stopped>
         if count < 14 {
             return Err(Refusal::MsCountTooSmall.into());
         }
-        let points = (count - 14) / 2;
+        let points = usize::from(count - 14) / 2;
         if points != 0 {
-            return ms_scan(
-                Scans(due.0 - passed),
-                Points(usize::from(points)),
-                s,
-                at,
-                last,
-            );
+            return ms_scan(Scans(due.0 - passed), Points(points), s, at, last);
         }
         if s.len() - at < EMPTY_SCAN {
             return Err(lacking(last, false));
@@ -145,6 +139,7 @@ fn ms_scans(due: Scans, s: &[u8], last: bool) -> Result<Given, Stopped>
 }
 
 // The next record of MS.
+#[tactic(auto, using(crate::proofs::MsLaws::none_left, crate::proofs::MsLaws::next_scan, crate::proofs::MsLaws::next_point))]
 pub fn ms_next(st: ChemstationMsState, s: &[u8], last: bool) -> Result<Given, Stopped>
     ensures { answer_of result ≡ read last (rule_by (State.Ms st) (ms_rule st)) s.now }
 {
