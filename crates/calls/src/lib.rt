@@ -53,6 +53,7 @@ impl Call {
 }
 
 // How many records the calls ask for, N, which may be larger than any number here; if it is at most so many.
+#[tactic(auto, using(crate::proofs::Calling::calls_at, crate::proofs::Calling::calls_end, std::proofs::lemmas::Bool::Decides::nat_tests), unfolding(rules::specs::Calls::asked))]
 fn asked_by_all(calls: &[Call], most: usize) -> Option<usize>
     ensures { result ≡ asked_in most (asked (calls_of calls.now)) }
 {
