@@ -1,7 +1,7 @@
 // UV: the record stream of an ultraviolet detector.
 #![tactic(auto)]
 
-ghost use Rattle.std.specs.Prelude.{◌≡◌, [], ◌≤◌, ◌<◌, length};
+ghost use Rattle.std.specs.Prelude.{◌≡◌, [], ◌≤◌, ◌<◌, length, Ok};
 ghost use Rattle.rules.specs.Rule.{got, read, read_at, map_read};
 ghost use Rattle.floats.specs.Wholes.{doubles, flat};
 ghost use Rattle.streams.specs.Next.{sum_of, item_of, stepped, rule_by, answer_of};
@@ -20,9 +20,10 @@ const STEP: usize = RANGE + 2;
 const HEAD: usize = STEP + 8;
 
 // The record of a value, and the state after it with the scans that are then due.
-fn uv_given(st: ChemstationUvState, scans: Scans, value: f64, n: usize) -> Result<Given, Stopped>
+// Kept: the minutes and the leftover of the stored time by two expressions (d), as at dad_given.
+fn uv_given(st: ChemstationUvState, scans: Scans, value: f64, n: usize) -> Given
     requires { 0 < st.n_wvs_left.0 }
-    ensures { answer_of result ≡ got (item_of (uv_made st scans) (flat doubles value)) n }
+    ensures { answer_of (Ok result) ≡ got (item_of (uv_made st scans) (flat doubles value)) n }
 {
     let cur_wv = st.cur_wv + st.wv_step;
     let record = Record::Spectrum {
@@ -40,14 +41,15 @@ fn uv_given(st: ChemstationUvState, scans: Scans, value: f64, n: usize) -> Resul
         cur_wv,
         ..st
     };
-    Ok(Given {
+    Given {
         record,
         state: State::Uv(state),
         bytes: n,
-    })
+    }
 }
 
 // The point at a position, with the scans that are due after it.
+// Kept: beside mwd_point and dad_point, which are alike (d): two lines each, of which one calls the kind's own function.
 fn uv_point(
     st: ChemstationUvState,
     scans: Scans,
@@ -60,10 +62,14 @@ fn uv_point(
     ensures { answer_of result ≡ map_read (stepped (sum_of (State.Uv st))) (read_at last (uv_point st scans []) at s.now) }
 {
     let (d, n) = delta_at(Endian::Little, s, at, last)?;
-    uv_given(st, scans, d.applied_to(st.cur_intensity), n)
+    let value = d.applied_to(st.cur_intensity);
+    Ok(uv_given(st, scans, value, n))
 }
 
 // A new scan, before its first point: a step behind it, with value 0.
+// Kept: time, start, end and step as four (d): uv_scan reads each and tests it before the next is due, and they go together through this
+// call alone, so that a struct of them would be made and taken apart in two neighbouring lines.
+#[tactic(auto, using(crate::proofs::UvLaws::zero_is, crate::proofs::UvLaws::twenty_is))]
 fn uv_begun(
     st: ChemstationUvState,
     time: u32,
@@ -79,7 +85,7 @@ fn uv_begun(
     let wv_step = f64::from(step) / 20.0;
     let cur_wv = f64::from(start) / 20.0 - wv_step;
     ChemstationUvState {
-        n_wvs_left: Points(points as usize + 1),
+        n_wvs_left: Points(usize::from(points) + 1),
         cur_time: minutes_of(f64::from(time)),
         cur_intensity: 0.0,
         cur_wv,
@@ -90,6 +96,7 @@ fn uv_begun(
 }
 
 // A scan's head and its first point.
+#[tactic(auto, using(crate::proofs::UvLaws::uv_range_cut, crate::proofs::UvLaws::uv_above, crate::proofs::UvLaws::uv_step_cut, crate::proofs::UvLaws::uv_step_zero, crate::proofs::UvLaws::uv_skip_cut, crate::proofs::UvLaws::uv_first))]
 fn uv_scan(st: ChemstationUvState, s: &[u8], last: bool) -> Result<Given, Stopped>
     ensures { answer_of result ≡ map_read (stepped (sum_of (State.Uv st))) (read_at last (uv_scan st) 0 s.now) }
 {
@@ -100,14 +107,14 @@ fn uv_scan(st: ChemstationUvState, s: &[u8], last: bool) -> Result<Given, Stoppe
     let start = u16::le_at(s, 8);
     let end = u16::le_at(s, 10);
     if start > end {
-        return Err(Stopped::Refused(Refusal::UvStartAboveEnd));
+        return Err(Refusal::UvStartAboveEnd.into());
     }
     if s.len() < STEP {
         return Err(lacking(last, false));
     }
     let step = u16::le_at(s, 12);
     if step == 0 {
-        return Err(Stopped::Refused(Refusal::UvStepZero));
+        return Err(Refusal::UvStepZero.into());
     }
     if s.len() < HEAD {
         return Err(lacking(last, false));
@@ -130,6 +137,7 @@ fn scans_left(st: ChemstationUvState) -> Scans
 }
 
 // The next record of UV.
+#[tactic(auto, using(crate::proofs::UvLaws::uv_ends, crate::proofs::UvLaws::uv_new, crate::proofs::UvLaws::uv_within))]
 pub fn uv_next(st: ChemstationUvState, s: &[u8], last: bool) -> Result<Given, Stopped>
     ensures { answer_of result ≡ read last (rule_by (State.Uv st) (uv_rule st)) s.now }
 {

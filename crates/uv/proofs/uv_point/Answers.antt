@@ -10,7 +10,7 @@ use Rattle.uv.proofs.uv_point.Goals as goal
 pub returns : goal.returns
 unfolding uv_point
 returns c =
-    rw (c.uv_given.ensures, c.applied_to.ensures)
+    rw (c.uv_given.ensures, c.applied_to-value.ensures)
     (point_of_lem le c.args.last c.args.at c.args.s.now (sum_of (Uv c.args.st)) _ c.delta_at.ensures c.in_ok-d.was)
 
 pub returns-in_err-d : goal.returns-in_err-d
