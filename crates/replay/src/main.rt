@@ -49,6 +49,12 @@ impl Fault {
 
 // ---- output
 
+// Bytes of room before a case, one of its texts, and its closing line. A log longer than what a case then has left is a fault.
+const CASE: usize = 32768;
+
+// Bytes that a line takes at most.
+const LINE: usize = 4096;
+
 // Where the answers go. What the pen has put is written when its memory runs short; what can't be written is missing in the comparison.
 #[derive(Drop)]
 struct Output<'a, 'b, W> {
@@ -69,11 +75,12 @@ impl<W: Write> Output<'_, '_, W> {
         pen.at = 0;
     }
 
-    // Makes room for 32,768 bytes more.
-    fn room(&mut self)
-        ensures room { self.new.pen.at + 32768 ≤ length self.new.pen.out.now }
+    // Makes room for n bytes more.
+    fn room(&mut self, n: usize)
+        requires { n ≤ 32768 }
+        ensures { self.new.pen.at + n ≤ length self.new.pen.out.now }
     {
-        if self.pen.out.len() - self.pen.at < 32768 {
+        if self.pen.out.len() - self.pen.at < n {
             self.write();
         }
     }
@@ -88,20 +95,20 @@ impl<W: Write> Output<'_, '_, W> {
 
     // A closing line.
     fn put_end(&mut self, z: Stopped, count: usize) {
-        self.room();
+        self.room(LINE);
         lines::put_end(&mut self.pen, z, count);
     }
 
     // The line of a header.
     fn put_header(&mut self, edition: u32, size: usize) {
-        self.room();
+        self.room(LINE);
         lines::put_header(&mut self.pen, edition, size);
     }
 
     // The header, and its numbers and doubles.
     fn put_description(&mut self, d: ChemstationMetadata) {
         self.put_header(d.edition, d.size);
-        self.room();
+        self.room(LINE);
         put_numbers(&mut self.pen, d);
         put_doubles(&mut self.pen, d);
     }
@@ -121,7 +128,7 @@ impl<W: Write> Output<'_, '_, W> {
     fn put_found(&mut self, number: u8, text: &[u8])
         requires { length text.now ≤ 1024 }
     {
-        self.room();
+        self.room(LINE);
         lines::put_letter(&mut self.pen, b't');
         self.pen.put_number(u64::from(number), b' ');
         put_hex(&mut self.pen, text);
@@ -132,6 +139,7 @@ impl<W: Write> Output<'_, '_, W> {
     fn put_texts(&mut self, kind: u8, s: &[u8]) {
         let mut lent = [0u8; 1024];
         for number in 1..9 {
+            self.room(CASE);
             self.put_text(kind, number, s, &mut lent);
         }
     }
@@ -142,6 +150,7 @@ impl<W: Write> Output<'_, '_, W> {
         match w.closing {
             Ok(()) => Err(Fault::LongText),
             Err(z) => {
+                self.room(CASE);
                 self.put_end(z, w.count);
                 Ok(())
             }
@@ -150,7 +159,7 @@ impl<W: Write> Output<'_, '_, W> {
 
     // The line that begins the answer to a case.
     fn put_case_number(&mut self, number: u64) {
-        self.room();
+        self.room(CASE);
         lines::put_letter(&mut self.pen, b'=');
         self.pen.put_number(number, b'\n');
     }
