@@ -17,6 +17,7 @@ use streams::{
 };
 
 // A run that was opened: the state before its first record, the size of its header in bytes, and what it says of itself.
+// Kept: Clone and Copy alone. A derive of Debug or of equality asks the same of `State`, which has neither. (d)
 #[derive(Clone, Copy)]
 pub struct OpenedRun {
     pub state: State,
@@ -49,7 +50,7 @@ fn record_type(h: &[u8]) -> ChemstationArrayRecordType
 
 // The states before the first record, in the order of the Rust's files.
 // Kept: a function for each. The structs stand in `streams`, which knows no description to make them of, and written out in
-// `first_state` they would be some sixty lines of one match. (d)
+// `first_state` they would be some fifty lines of one match. (d)
 
 #[tactic(auto, using(metadata::proofs::Constants::zero_is, crate::proofs::Constants::fifth_is))]
 fn fid_state(d: ChemstationMetadata) -> State
