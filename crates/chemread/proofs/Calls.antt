@@ -16,7 +16,7 @@ use Rattle.fetch.specs.Fetch.{outcome_of, Fetches}
 use Rattle.texts.specs.Eight.{Texts, FetchesAll}
 use Rattle.std.specs.Prelude.{Result}
 use Rattle.error.specs.declared.Refusal.{Refusal}
-use Rattle.fetch.specs.declared.FetchedText.{FetchedText}
+use Rattle.utf16.specs.declared.Recoded.{Recoded}
 use Rattle.texts.specs.declared.FetchedTexts.{FetchedTexts}
 use Rattle.texts.specs.Eight as eight
 use Rattle.streams.specs.declared.State.{State}
@@ -80,7 +80,7 @@ opens_held {mode} {kind} {n} {x} {old} e o = subst (λ m. OpensInto mode kind x 
 pub texts_into : {x : Read (List (List ℕ))} {f : Result FetchedTexts Refusal} {m : Both Texts Texts} → FetchesAll f m x → TextsInto x (outcome_number (eight.outcome_of f)) m
 texts_into h = record { answer = ap outcome_number h.answer; memory = h.memory }
 
-pub fetches_into : {x : Read (List ℕ)} {f : Result FetchedText Refusal} {old new : List ℕ} (n : ℕ) → Fetches f old new x →
+pub fetches_into : {x : Read (List ℕ)} {f : Result Recoded Refusal} {old new : List ℕ} (n : ℕ) → Fetches f old new x →
     FetchesInto x (outcome_number (outcome_of f)) (record { entry = record { bytes = old; size = n }; exit = record { bytes = new; size = size_after (outcome_of f) n } })
 fetches_into n h = record { answer = ap outcome_number h.answer; memory = λ j. record { bytes = h.buffer j; size = size_after (h.answer j) n } }
 

@@ -9,7 +9,7 @@ use crate::stored::Stored;
 use error::Refusal;
 use metadata::{ChemstationMetadata, open_header};
 
-#[derive(Clone, Copy)]
+#[derive(Clone, Copy, Debug, PartialEq)]
 pub struct Described<'a> {
     pub bytes: &'a [u8],
     pub says: ChemstationMetadata,

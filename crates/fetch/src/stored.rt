@@ -5,12 +5,11 @@ ghost use Rattle.rules.specs.Rule.{got};
 ghost use Rattle.fetch.specs.Fetch.{Fetches, outcome_of, replaced_of, passed_on};
 ghost use Rattle.fetch.specs.Headers.{utf8_in, unpaired_in};
 
-use crate::FetchedText;
 use error::Refusal;
-use utf16::decode_utf16;
+use utf16::{Recoded, decode_utf16};
 use written::copy_text;
 
-#[derive(Clone, Copy)]
+#[derive(Clone, Copy, Debug, PartialEq, Eq)]
 pub enum Stored<'a> {
     // of an edition up to 102: trimmed
     Utf8(&'a [u8]),
@@ -19,25 +18,16 @@ pub enum Stored<'a> {
 
 impl<'a> Stored<'a> {
     // Writes it as UTF-8 to the start of out, if there is room for it.
-    pub fn write(&self, out: &mut [u8]) -> Result<FetchedText, Refusal>
+    pub fn write(&self, out: &mut [u8]) -> Result<Recoded, Refusal>
         ensures text { (n : ℕ) → Fetches result out.old out.new (got (utf8_in self.now) n) }
         ensures replaced { replaced_of result ≡ passed_on (outcome_of result) (unpaired_in self.now) }
     {
         match self {
-            Stored::Utf8(bytes) => match copy_text(bytes, out) {
-                Some(n) => Ok(FetchedText {
-                    bytes: n,
-                    replaced: 0,
-                }),
-                None => Err(Refusal::LentLength),
-            },
-            Stored::Utf16(bytes) => match decode_utf16(bytes, out) {
-                Some(t) => Ok(FetchedText {
-                    bytes: t.bytes,
-                    replaced: t.replaced,
-                }),
-                None => Err(Refusal::LentLength),
-            },
+            Stored::Utf8(bytes) => {
+                let bytes = copy_text(bytes, out).ok_or(Refusal::LentLength)?;
+                Ok(Recoded { bytes, replaced: 0 })
+            }
+            Stored::Utf16(bytes) => decode_utf16(bytes, out).ok_or(Refusal::LentLength),
         }
     }
 }

@@ -7,7 +7,7 @@ ghost use denote.Triple.Both.{Both};
 ghost use Rattle.rules.specs.Rule.{read, map_read};
 ghost use Rattle.error.specs.declared.Refusal.{Refusal};
 ghost use Rattle.written.specs.Written.{written};
-ghost use Rattle.fetch.specs.declared.FetchedText.{FetchedText};
+ghost use Rattle.utf16.specs.declared.Recoded.{Recoded};
 ghost use Rattle.fetch.specs.Fetch.{fetch_rule, Fetches};
 ghost use Rattle.fetch.specs.Headers.{utf8_in, unpaired_in};
 ghost use Rattle.texts.specs.declared.FetchedTexts.{FetchedTexts};
@@ -18,7 +18,7 @@ use fetch::{Described, Stored};
 use utf16::{Recoded, measured, recode};
 
 // The texts that were fetched: the bytes that they take together, and how many units of each were replaced by U+FFFD.
-#[derive(Clone, Copy)]
+#[derive(Clone, Copy, Debug, PartialEq, Eq)]
 pub struct FetchedTexts {
     pub bytes: usize,
     pub replaced: [usize; 8],
@@ -93,6 +93,7 @@ fn fit(d: &Described<'_>, room: usize) -> bool
 }
 
 // Puts the eight texts of a header at the start of out, which has room for them, and says where.
+// Kept: the bytes, the starts and the lengths are parameters of their own, as the C interface lends them (a).
 fn lay_out(
     d: &Described<'_>,
     out: &mut [u8],
@@ -115,7 +116,7 @@ fn lay_out(
 }
 
 // All texts, from the bytes of a whole file.
-// Kept: the bytes, the starts and the lengths are parameters of their own, since C lends them so.
+// Kept: the bytes, the starts and the lengths are parameters of their own, since C lends them so (a).
 pub fn fetch_texts(
     kind: u8,
     s: &[u8],
@@ -136,6 +137,6 @@ pub fn fetch_texts(
 // What stands where in the lent memory is what Fetch gives, text by text, in a contract so that it cannot be left out.
 pub fn texts_are_fetched()
     ensures reads { (kind number : ℕ) (s : List ℕ) → 1 ≤ number → number ≤ 8 → read true (fetch_rule kind number) s ≡ map_read (λ ts. get_or ts (number - 1) []) (read true (eight_rule kind) s) }
-    ensures agrees { (kind number : ℕ) (s : List ℕ) (r : Result FetchedTexts Refusal) (f : Result FetchedText Refusal) (m : Both Texts Texts) (old new : List ℕ) → 1 ≤ number → number ≤ 8 → FetchesAll r m (read true (eight_rule kind) s) → Fetches f old new (read true (fetch_rule kind number) s) → AsFetched r m number f old new }
+    ensures agrees { (kind number : ℕ) (s : List ℕ) (r : Result FetchedTexts Refusal) (f : Result Recoded Refusal) (m : Both Texts Texts) (old new : List ℕ) → 1 ≤ number → number ≤ 8 → FetchesAll r m (read true (eight_rule kind) s) → Fetches f old new (read true (fetch_rule kind number) s) → AsFetched r m number f old new }
     ensures lies { (kind : ℕ) (s : List ℕ) (r : Result FetchedTexts Refusal) (m : Both Texts Texts) → FetchesAll r m (read true (eight_rule kind) s) → Lies r m }
 {}

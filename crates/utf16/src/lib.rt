@@ -39,7 +39,7 @@ fn six(c: u32) -> u8
 }
 
 // Puts the UTF-8 of a scalar at the start of out, and answers its length.
-// Kept: stored byte by byte, since the contract of `encode_utf8` does not say what the memory holds behind its bytes.
+// Kept: stored byte by byte. By `encode_utf8` the proof did not close: its contract does not say what the memory holds behind its bytes (c).
 fn put_scalar(out: &mut [u8], scalar: char) -> usize
     requires { length (encode scalar) ≤ length out.old }
     ensures { (result ≡ length (encode scalar)) × (out.new ≡ encode scalar ++ drop (length (encode scalar)) out.old) }

@@ -1,5 +1,5 @@
 -- The description says where a text stands.
-use Rattle.std.proofs.Common.{arith, sym, get_or, take, drop, length, ◌-◌, length-drop, length-take, length-take-le}
+use Rattle.std.proofs.Common.{arith, sym, get_or, drop, length, ◌-◌, length-drop, length-take, length-take-le}
 use Rattle.fetch.proofs.Texts.{text_inside, bytes_there, new_text, new_units, old_text, old_units}
 use Rattle.fetch.proofs.described.Described.text.Goals as goal
 
