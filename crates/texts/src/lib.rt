@@ -135,6 +135,7 @@ pub fn fetch_texts(
 }
 
 // What stands where in the lent memory is what Fetch gives, text by text, in a contract so that it cannot be left out.
+#[tactic(auto, using(crate::proofs::Laws::reads_each, crate::proofs::Laws::agrees, crate::proofs::Laws::lies))]
 pub fn texts_are_fetched()
     ensures reads { (kind number : ℕ) (s : List ℕ) → 1 ≤ number → number ≤ 8 → read true (fetch_rule kind number) s ≡ map_read (λ ts. get_or ts (number - 1) []) (read true (eight_rule kind) s) }
     ensures agrees { (kind number : ℕ) (s : List ℕ) (r : Result FetchedTexts Refusal) (f : Result Recoded Refusal) (m : Both Texts Texts) (old new : List ℕ) → 1 ≤ number → number ≤ 8 → FetchesAll r m (read true (eight_rule kind) s) → Fetches f old new (read true (fetch_rule kind number) s) → AsFetched r m number f old new }

@@ -198,6 +198,7 @@ pub fn decode_utf16(src: &[u8], out: &mut [u8]) -> Option<Recoded>
 }
 
 // What the definitions mean, in a contract so that it cannot be left out: UTF-16 becomes UTF-8.
+#[tactic(auto, using(crate::proofs::Units::recodes))]
 pub fn utf16_laws()
     ensures recodes { (bs : List ℕ) → AreBytes bs → Utf8 (utf8_of bs) (utf16 (units bs)) }
 {}
