@@ -39,7 +39,8 @@ fn six(c: u32) -> u8
 }
 
 // Puts the UTF-8 of a scalar at the start of out, and answers its length.
-// Kept: stored byte by byte. By `encode_utf8` the proof did not close: its contract does not say what the memory holds behind its bytes (c).
+// Kept: stored byte by byte. Straight into out, `encode_utf8` does not say what stands behind its bytes; into four bytes of its own, and a
+// copy of these, it proves, but the eight texts of a new edition cost 10,679 instructions in place of 7,535 (b).
 fn put_scalar(out: &mut [u8], scalar: char) -> usize
     requires { length (encode scalar) ≤ length out.old }
     ensures { (result ≡ length (encode scalar)) × (out.new ≡ encode scalar ++ drop (length (encode scalar)) out.old) }
