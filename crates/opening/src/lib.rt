@@ -1,7 +1,7 @@
 // Open over all kinds: the header, what it says, and the state before the first record.
 #![tactic(auto)]
 
-ghost use Rattle.std.specs.Prelude.{◌≡◌, ◌+◌, ◌≤◌, length};
+ghost use Rattle.std.specs.Prelude.{◌≡◌, length};
 ghost use Rattle.common.specs.Bytes.{part};
 ghost use Rattle.agilent.specs.Header.{kind_number};
 ghost use Rattle.metadata.specs.Remaining.{header_of};
