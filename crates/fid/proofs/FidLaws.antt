@@ -4,6 +4,7 @@ use mathlib.Core.Bool.{Bool, true, cond}
 use mathlib.Core.List.{List, [], ◌∷◌}
 use Prim.Native.Nat.{ℕ, ◌≤◌, ◌<◌}
 use native.Mathlib.Omega.{arith}
+use lib.Ieee.{binary64, of_int, of_bits}
 use lib.IntN.{ℤ, pos}
 use lib.ListN.{length}
 use mir.Syntax.{w16}
@@ -13,6 +14,7 @@ use Rattle.rules.specs.Rule.{gives, Read, got, stops, lacks, read, read_at, ◌>
 use Rattle.rules.proofs.Places.{at_start, at_number, at_gives, at_cut, more_number, none, cut, may_end_some, may_end_none}
 use Rattle.common.specs.Bytes.{be, signed, part}
 use Rattle.common.specs.Fields.{u16, i32}
+use Rattle.floats.specs.Doubles.{double}
 use Rattle.streams.specs.Changes.{slopes, restarts}
 use Rattle.streams.specs.Told.{Told, is_int, told}
 use Rattle.fid.specs.Fid.{fid_made, fid_rule}
@@ -23,6 +25,18 @@ use Rattle.streams.proofs.Steps.{Answers, rule_reads}
 
 -- a signed number that is passed on stays the same
 pub ruleset passed_on = (to_z-of_z)
+
+-- ---- constants, by their bit patterns
+
+pub zero_is : of_bits binary64 0 ≡ double 0
+unfolding of_int of_bits
+zero_is = refl
+
+pub factor_is : of_bits binary64 4679239737960038400 ≡ double 65534
+unfolding of_int of_bits
+factor_is = refl
+
+-- ---- the next record
 
 module _ (st : ChemstationFidState) (last : Bool) (s : List ℕ) where
   abbrev Reads : Read Told → Type 0

@@ -1,11 +1,11 @@
 -- MS: what its rules read from a position on, by the bytes that are there.
-use mathlib.Core.Path.{◌≡◌, sym, ◌∙◌}
+use mathlib.Core.Path.{◌≡◌, refl, sym, ◌∙◌}
 use mathlib.Core.Bool.{Bool, cond}
 use mathlib.Core.List.{List, [], ◌∷◌}
 use Prim.Native.Nat.{ℕ, zero, suc, ◌+◌, ◌-◌, ◌*◌, ◌/◌, ◌%◌, ◌^◌, ◌≤◌, ◌<◌}
 use native.Mathlib.Omega.{arith}
 use lib.Dec.{eqb, ltb}
-use lib.Ieee.{Float}
+use lib.Ieee.{Float, binary64, of_int, of_bits}
 use lib.ListN.{length}
 use borrow.Author.Tests.{eq-eqb, ne_eqb, lt-ltb, le-ltb}
 use Rattle.rules.specs.Rule.{Rule, Read, gives, refuses, refused, finished, got, stops, read, read_at, ◌>>=◌, ◌>>◌, skip}
@@ -30,6 +30,12 @@ shifted base (suc zero) b h = omega arith
 shifted base (suc (suc zero)) b h = omega arith
 shifted base (suc (suc (suc zero))) b h = omega arith
 shifted base (suc (suc (suc (suc e)))) b h = absurd (omega arith)
+
+-- ---- a constant, by its bit pattern
+
+pub twenty_is : of_bits binary64 4626322717216342016 ≡ double 20
+unfolding of_int of_bits
+twenty_is = refl
 
 -- ---- a point
 

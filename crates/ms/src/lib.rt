@@ -1,7 +1,7 @@
 // MS: the record stream of a mass spectrometer.
 #![tactic(auto)]
 
-ghost use Rattle.std.specs.Prelude.{◌≡◌, ◌-◌, ◌≤◌, ◌<◌, ◌+◌, ◌*◌, ◌/◌, ◌%◌, ◌^◌, Float, length};
+ghost use Rattle.std.specs.Prelude.{◌≡◌, ◌-◌, ◌≤◌, ◌<◌, ◌+◌, ◌*◌, ◌/◌, ◌%◌, ◌^◌, Float, length, Ok};
 ghost use Rattle.rules.specs.Rule.{got, read, read_at, map_read};
 ghost use Rattle.common.specs.Bytes.{be, part};
 ghost use Rattle.floats.specs.Doubles.{double};
@@ -38,8 +38,9 @@ fn ms_intensity(raw: u16) -> f64
 }
 
 // The record of a point of a scan, and the state after it: the counts are already those that are then due.
-fn ms_given(st: ChemstationMsState, mz: u16, value: f64, n: usize) -> Result<Given, Stopped>
-    ensures { answer_of result ≡ got (item_of (ms_made st.n_scans_left st.n_mzs_left st.cur_time st.stored_time mz) (flat doubles value)) n }
+#[tactic(auto, using(crate::proofs::MsLaws::twenty_is))]
+fn ms_given(st: ChemstationMsState, mz: u16, value: f64, n: usize) -> Given
+    ensures { answer_of (Ok result) ≡ got (item_of (ms_made st.n_scans_left st.n_mzs_left st.cur_time st.stored_time mz) (flat doubles value)) n }
 {
     let record = Record::Mass {
         time: st.cur_time,
@@ -55,11 +56,11 @@ fn ms_given(st: ChemstationMsState, mz: u16, value: f64, n: usize) -> Result<Giv
         cur_intensity: value,
         ..st
     };
-    Ok(Given {
+    Given {
         record,
         state: State::Ms(state),
         bytes: n,
-    })
+    }
 }
 
 // A point, and the footer if it is its scan's last. The value before it makes no difference.
@@ -80,7 +81,7 @@ fn ms_point(st: ChemstationMsState, s: &[u8], at: usize, last: bool) -> Result<G
             n_mzs_left: Points(st.n_mzs_left.0 - 1),
             ..st
         };
-        return ms_given(within, mz, value, at + POINT);
+        return Ok(ms_given(within, mz, value, at + POINT));
     }
     if s.len() - at < LAST_POINT {
         return Err(lacking(last, false));
@@ -90,7 +91,7 @@ fn ms_point(st: ChemstationMsState, s: &[u8], at: usize, last: bool) -> Result<G
         n_mzs_left: Points(0),
         ..st
     };
-    ms_given(behind, mz, value, at + LAST_POINT)
+    Ok(ms_given(behind, mz, value, at + LAST_POINT))
 }
 
 // A scan whose count, already read, makes so many points.

@@ -1,7 +1,7 @@
 // MWD: the record stream of a multiple wavelength detector.
 #![tactic(auto)]
 
-ghost use Rattle.std.specs.Prelude.{◌≡◌, ◌≤◌, ◌<◌, length};
+ghost use Rattle.std.specs.Prelude.{◌≡◌, ◌≤◌, ◌<◌, length, Ok};
 ghost use Rattle.rules.specs.Rule.{got, read, read_at, map_read};
 ghost use Rattle.floats.specs.Wholes.{doubles, flat};
 ghost use Rattle.streams.specs.Next.{sum_of, item_of, stepped, rule_by, answer_of};
@@ -15,13 +15,8 @@ use streams::{ChemstationMwdState, Given, Points, Record, State, delta_at};
 const GROUP: usize = 2;
 
 // The record of a value, and the state after it with the points that are then due.
-fn mwd_given(
-    st: ChemstationMwdState,
-    points: Points,
-    value: f64,
-    n: usize,
-) -> Result<Given, Stopped>
-    ensures { answer_of result ≡ got (item_of (mwd_made st points) (flat doubles value)) n }
+fn mwd_given(st: ChemstationMwdState, points: Points, value: f64, n: usize) -> Given
+    ensures { answer_of (Ok result) ≡ got (item_of (mwd_made st points) (flat doubles value)) n }
 {
     let cur_time = st.cur_time + st.time_step;
     let record = Record::trace(cur_time, value, st.mult_correction, st.offset_correction);
@@ -31,11 +26,11 @@ fn mwd_given(
         cur_intensity: value,
         ..st
     };
-    Ok(Given {
+    Given {
         record,
         state: State::Mwd(state),
         bytes: n,
-    })
+    }
 }
 
 // The point at a position, one of so many due.
@@ -53,7 +48,8 @@ fn mwd_point(
     ensures { answer_of result ≡ map_read (stepped (sum_of (State.Mwd st))) (read_at last (mwd_point st points) at s.now) }
 {
     let (d, n) = delta_at(Endian::Big, s, at, last)?;
-    mwd_given(st, Points(points.0 - 1), d.applied_to(st.cur_intensity), n)
+    let value = d.applied_to(st.cur_intensity);
+    Ok(mwd_given(st, Points(points.0 - 1), value, n))
 }
 
 // The next record of MWD.

@@ -10,7 +10,7 @@ use Rattle.mwd.proofs.mwd_point.Goals as goal
 pub returns : goal.returns
 unfolding mwd_point
 returns c =
-    rw (c.mwd_given.ensures, c.applied_to.ensures)
+    rw (c.mwd_given.ensures, c.applied_to-value.ensures)
     (point_of_lem be c.args.last c.args.at c.args.s.now (sum_of (Mwd c.args.st)) _ c.delta_at.ensures c.in_ok-d.was)
 
 pub returns-in_err-d : goal.returns-in_err-d
