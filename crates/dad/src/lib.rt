@@ -69,6 +69,7 @@ fn dad_point(st: ChemstationDadState, s: &[u8], at: usize, last: bool) -> Result
 }
 
 // The head of a scan and its first point.
+// Kept: `0 < scans` as a requires (d): dad_next has just told 0 apart, and of a count without 0 this function would at once take 1 again.
 #[tactic(auto, using(crate::proofs::DadLaws::dad_type_cut, crate::proofs::DadLaws::dad_other, crate::proofs::DadLaws::dad_head_cut, crate::proofs::DadLaws::dad_none, crate::proofs::DadLaws::dad_first, crate::proofs::DadLaws::zero_is))]
 fn dad_scan(st: ChemstationDadState, s: &[u8], last: bool) -> Result<Given, Stopped>
     requires { 0 < st.n_scans_left.0 }

@@ -124,6 +124,7 @@ fn uv_scan(st: ChemstationUvState, s: &[u8], last: bool) -> Result<Given, Stoppe
 }
 
 // The scans due after a later point of a scan: one whose first point is its last is never debited.
+// Kept: `0 < scans` as a requires (d), as at dad_scan.
 fn scans_left(st: ChemstationUvState) -> Scans
     requires { 0 < st.n_scans_left.0 }
     ensures { result ≡ uv_left st }
