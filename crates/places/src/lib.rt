@@ -289,6 +289,7 @@ impl Place {
     }
 
     // Where a run stands when a read has given so many bytes.
+    #[tactic(auto, unfolding(crate::specs::Machine::took_of))]
     pub fn took(self, k: usize, buf: &[u8]) -> Place
         ensures { result ≡ took_of self k buf.now }
     {
