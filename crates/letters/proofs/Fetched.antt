@@ -18,6 +18,7 @@ use Rattle.utf8.specs.Utf8.{Scalar, Scalars, Utf8, encodes, Decoded, bad, text, 
 use Rattle.utf8.proofs.Cases.{never}
 use Rattle.utf8.proofs.Decodes.{exactly}
 use Rattle.trim.specs.WhiteSpace.{white, trim_start, keep, trim_end, trim}
+use Rattle.trim.proofs.Library.{start_scalars}
 use Rattle.agilent.specs.Header.{known, header_rule}
 use Rattle.utf16.specs.Utf16.{units}
 use Rattle.utf16.proofs.Units.{recodes}
@@ -81,11 +82,6 @@ unfolding trim
 trim_keeps cs = end_keeps (trim_start cs) ∙ start_keeps cs
 
 -- nor makes it any
-
-start_scalars : (cs : List ℕ) → Scalars cs → Scalars (trim_start cs)
-unfolding trim_start
-start_scalars [] s = s
-start_scalars (c ∷ cs) s = by (white c) (λ w. simp w (start_scalars cs s.1)) λ w. simp w s
 
 keep_scalars : (c : ℕ) (ds : List ℕ) → Scalar c → Scalars ds → Scalars (keep c ds)
 keep_scalars c [] s t = by (white c) (λ w. simp w tt) λ w. simp w (s, tt)
