@@ -1,7 +1,7 @@
 // All eight texts of a run at once: it is opened once, and they stand one behind the other in one lent buffer.
 #![tactic(auto)]
 
-ghost use Rattle.std.specs.Prelude.{◌≡◌, true, List, [], Result, ℕ, ◌+◌, ◌-◌, ◌≤◌, ◌<◌, leb, length, sum, get_or};
+ghost use Rattle.std.specs.Prelude.{MatchOption, ◌≡◌, true, List, [], Result, ℕ, ◌+◌, ◌-◌, ◌≤◌, ◌<◌, leb, length, sum, get_or};
 ghost use Rattle.std.proofs.Math.Seq.{paste};
 ghost use denote.Triple.Both.{Both};
 ghost use Rattle.rules.specs.Rule.{read, map_read};
@@ -60,18 +60,15 @@ fn put_text(text: &Stored<'_>, out: &mut [u8], at: usize) -> Recoded
     }
 }
 
-// Whether so many bytes as the eight texts take in the header have room.
-fn stored_fit(lengths: &[usize; 8], room: usize) -> bool
-    ensures { result ≡ leb (sum lengths.now) room }
+// The room that is left behind so many bytes as the eight texts take in the header, if it holds them.
+fn stored_left(lengths: &[usize; 8], room: usize) -> Option<usize>
+    ensures { MatchOption result (room < sum lengths.now) (λ left. left + sum lengths.now ≡ room) }
 {
     let mut left = room;
     for n in lengths {
-        if left < *n {
-            return false;
-        }
-        left -= *n;
+        left = left.checked_sub(*n)?;
     }
-    true
+    Some(left)
 }
 
 // The bytes that the eight texts of a header take together, text by text, if there is room for them.
@@ -89,7 +86,7 @@ fn joined_length(d: &Described<'_>, room: usize) -> Option<usize>
 fn fit(d: &Described<'_>, room: usize) -> bool
     ensures { result ≡ leb (length (joined (texts_in d.now))) room }
 {
-    stored_fit(&d.says.text_lengths, room / 2) || joined_length(d, room).is_some()
+    stored_left(&d.says.text_lengths, room / 2).is_some() || joined_length(d, room).is_some()
 }
 
 // Puts the eight texts of a header at the start of out, which has room for them, and says where.
