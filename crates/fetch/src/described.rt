@@ -48,6 +48,7 @@ impl<'a> Described<'a> {
     {
         let rest = &self.bytes[self.says.text_starts[k]..];
         let bytes = &rest[..self.says.text_lengths[k]];
+        // Kept: the edition as a number, since the description keeps it as the number that the C interface hands out. (a)
         if 102 < self.says.edition {
             Stored::Utf16(bytes)
         } else {

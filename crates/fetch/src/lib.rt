@@ -27,6 +27,7 @@ pub fn refusal_of(z: Stopped) -> Refusal
 }
 
 // A text by its number, from the bytes of a whole file.
+// Kept: the kind and the text are numbers here, as the C interface hands them over, and a number that is none is refused here. (a)
 pub fn fetch_text(kind: u8, number: u8, s: &[u8], out: &mut [u8]) -> Result<Recoded, Refusal>
     ensures text { Fetches result out.old out.new (read true (fetch_rule kind number) s.now) }
     ensures replaced { replaced_of result ≡ passed kind number out.old s.now }
@@ -36,5 +37,5 @@ pub fn fetch_text(kind: u8, number: u8, s: &[u8], out: &mut [u8]) -> Result<Reco
         return Err(Refusal::UnknownText);
     }
     let header = Described::open(kind, s)?;
-    header.text(number as usize - 1).write(out)
+    header.text(usize::from(number) - 1).write(out)
 }

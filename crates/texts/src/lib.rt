@@ -2,62 +2,23 @@
 #![tactic(auto)]
 
 ghost use Rattle.std.specs.Prelude.{MatchOption, ◌≡◌, true, List, [], Result, ℕ, ◌+◌, ◌-◌, ◌≤◌, ◌<◌, leb, length, sum, get_or};
-ghost use Rattle.std.proofs.Math.Seq.{paste};
 ghost use denote.Triple.Both.{Both};
 ghost use Rattle.rules.specs.Rule.{read, map_read};
 ghost use Rattle.error.specs.declared.Refusal.{Refusal};
 ghost use Rattle.written.specs.Written.{written};
 ghost use Rattle.utf16.specs.declared.Recoded.{Recoded};
 ghost use Rattle.fetch.specs.Fetch.{fetch_rule, Fetches};
-ghost use Rattle.fetch.specs.Headers.{utf8_in, unpaired_in};
 ghost use Rattle.texts.specs.declared.FetchedTexts.{FetchedTexts};
 ghost use Rattle.texts.specs.Eight.{eight_rule, joined, Texts, lent_texts, replaced_of, FetchesAll, AsFetched, Lies, all_passed, texts_in, replaced_in_each, Lays};
 
 use error::Refusal;
-use fetch::{Described, Stored};
-use utf16::{Recoded, measured, recode};
+use fetch::Described;
 
 // The texts that were fetched: the bytes that they take together, and how many units of each were replaced by U+FFFD.
 #[derive(Clone, Copy, Debug, PartialEq, Eq)]
 pub struct FetchedTexts {
     pub bytes: usize,
     pub replaced: [usize; 8],
-}
-
-// The length of a text in bytes, if there is room for it.
-fn text_length(text: &Stored<'_>, room: usize) -> Option<usize>
-    ensures { result ≡ written room (utf8_in text.now) }
-{
-    match text {
-        Stored::Utf8(bytes) => {
-            let n = bytes.len();
-            if room < n {
-                return None;
-            }
-            Some(n)
-        }
-        Stored::Utf16(bytes) => measured(bytes, room),
-    }
-}
-
-// Puts a text at a place, and answers its length and how many of its units were replaced.
-fn put_text(text: &Stored<'_>, out: &mut [u8], at: usize) -> Recoded
-    requires { at + length (utf8_in text.now) ≤ length out.old }
-    ensures count { result.bytes ≡ length (utf8_in text.now) }
-    ensures bytes { out.new ≡ paste out.old at (utf8_in text.now) result.bytes }
-    ensures replaced { result.replaced ≡ unpaired_in text.now }
-{
-    match text {
-        Stored::Utf8(bytes) => {
-            let n = bytes.len();
-            out[at..at + n].copy_from_slice(bytes);
-            Recoded {
-                bytes: n,
-                replaced: 0,
-            }
-        }
-        Stored::Utf16(bytes) => recode(bytes, &mut out[at..]),
-    }
 }
 
 // The room that is left behind so many bytes as the eight texts take in the header, if it holds them.
@@ -72,12 +33,14 @@ fn stored_left(lengths: &[usize; 8], room: usize) -> Option<usize>
 }
 
 // The bytes that the eight texts of a header take together, text by text, if there is room for them.
+// Kept: by index, here and in `lay_out`. `text` takes the number of a text, and a method for all eight would make an array of them by the
+// same index. (d)
 fn joined_length(d: &Described<'_>, room: usize) -> Option<usize>
     ensures { result ≡ written room (joined (texts_in d.now)) }
 {
     let mut n: usize = 0;
     for k in 0..8 {
-        n += text_length(&d.text(k), room - n)?;
+        n += d.text(k).measured(room - n)?;
     }
     Some(n)
 }
@@ -90,7 +53,7 @@ fn fit(d: &Described<'_>, room: usize) -> bool
 }
 
 // Puts the eight texts of a header at the start of out, which has room for them, and says where.
-// Kept: the bytes, the starts and the lengths are parameters of their own, as the C interface lends them (a).
+// Kept: the bytes, the starts and the lengths, here and in `fetch_texts`. C lends the three one by one, and these two functions take them. (a)
 fn lay_out(
     d: &Described<'_>,
     out: &mut [u8],
@@ -103,7 +66,7 @@ fn lay_out(
     let mut replaced = [0; 8];
     let mut n: usize = 0;
     for k in 0..8 {
-        let t = put_text(&d.text(k), out, n);
+        let t = d.text(k).put(&mut out[n..]);
         starts[k] = n;
         lengths[k] = t.bytes;
         replaced[k] = t.replaced;
@@ -113,7 +76,7 @@ fn lay_out(
 }
 
 // All texts, from the bytes of a whole file.
-// Kept: the bytes, the starts and the lengths are parameters of their own, since C lends them so (a).
+// Kept: the bytes, the starts and the lengths are three parameters, as C lends them one by one. (a)
 pub fn fetch_texts(
     kind: u8,
     s: &[u8],

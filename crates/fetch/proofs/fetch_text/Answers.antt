@@ -32,5 +32,5 @@ pub returns : goal.returns
 returns c =
     let k = is_known c.in_ok-try_from.field-0 c.in_ok-try_from.ensures in
     let i : (leb 1 c.args.number && leb c.args.number 8) ≡ true = grind (arith, common_steps) in
-    let t = text_written c.args.kind c.args.number c.args.s.now c.args.out.now k i c.in_ok-header.header c.in_ok-header.ensures.opened (rw c.text.ensures.text at c.write.ensures.text) (rw c.text.ensures.replaced at c.write.ensures.replaced) in
+    let t = text_written c.args.kind c.args.number c.args.s.now c.args.out.now k i c.in_ok-header.header c.in_ok-header.ensures.opened (rw (c.text.ensures.text, c.from.ensures) at c.write.ensures.text) (rw (c.text.ensures.replaced, c.from.ensures) at c.write.ensures.replaced) in
     record { text = t.0; replaced = t.1 }
