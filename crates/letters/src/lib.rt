@@ -23,7 +23,8 @@ pub fn fetch_told(kind: u8, number: u8, s: &[u8], out: &mut [u8]) -> Result<Reco
 }
 
 // All texts at once, with what their numbers say.
-// Kept: the bytes, the starts and the lengths are parameters of their own, since C lends them so (a).
+// Kept: the bytes, the starts and the lengths are the parameters of `fetch_texts`, of which this is the theorem: C lends the three one by one
+// (a), and a struct would be made here only to be taken apart in the one call (d).
 pub fn texts_told(
     kind: u8,
     s: &[u8],

@@ -9,7 +9,9 @@ ghost use Rattle.common.specs.Bytes.{AreBytes};
 ghost use Rattle.utf16.specs.Utf16.{units, utf16, utf8_of, unpaired, bytes_of, piece_of, first_unit, First};
 
 // A scalar, how many bytes of UTF-16 it takes, and how many units of these were replaced by it: one or none.
-#[derive(Clone, Copy)]
+// Kept: a number and no bool, since the definitions have this record and add it (`unpaired (units s) ≡ r.replaced + ..`), as the code does:
+// a bool would have to be made a number in both (d).
+#[derive(Clone, Copy, Debug, PartialEq, Eq)]
 struct Piece {
     pub scalar: char,
     pub width: usize,
@@ -77,6 +79,8 @@ const REPLACEMENT: char = '\u{FFFD}';
 const REPLACED: usize = 1;
 
 // The first unit of some bytes, or 0 where there is none.
+// Kept: 0 is no surrogate and ends no pair, as the definitions have it beyond the end. Of an Option the None would never come for the unit
+// in front, and behind it would be one case with a unit that ends no pair (d).
 fn first_unit(s: &[u8]) -> u16
     ensures { result ≡ first_unit s.now }
 {
@@ -130,6 +134,8 @@ fn first_piece(s: &[u8]) -> Piece
 }
 
 // The pieces of the UTF-16 that is left, from the front. An odd byte at the end is none.
+// Kept: `char::decode_utf16` over `s.chunks_exact(2).map(..)` was tried once, in `measured`: what it returns stayed open
+// (`returns-in_err-left`), since no lemma of std joins the unit that the iterator has looked at, and the chunks behind it, to a text (c).
 #[derive(Drop)]
 struct Pieces<'a>(&'a [u8]);
 
