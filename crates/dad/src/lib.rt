@@ -1,7 +1,7 @@
 // DAD: the record stream of a diode array detector.
 #![tactic(auto)]
 
-ghost use Rattle.std.specs.Prelude.{◌≡◌, ◌∷◌, [], ◌-◌, ◌≤◌, ◌<◌, length, Ok};
+ghost use Rattle.std.specs.Prelude.{◌≡◌, ◌∷◌, [], ◌<◌, Ok};
 ghost use Rattle.rules.specs.Rule.{got, read, read_at, map_read};
 ghost use Rattle.streams.specs.Told.{told, change_of};
 ghost use Rattle.streams.specs.Next.{sum_of, stepped, rule_by, answer_of};
@@ -10,7 +10,7 @@ ghost use Rattle.dad.specs.Dad.{width_of, dad_made, dad_point, dad_scan, dad_rul
 use common::{Endian, Number};
 use error::{Stopped, lacking};
 use floats::minutes_of;
-use streams::{Bytes, ChemstationDadState, Delta, Given, Record, Scans, State, delta_at};
+use streams::{Bytes, ChemstationDadState, Delta, Given, Input, Record, Scans, State, delta_at};
 
 // Bytes of a scan's type, and of its head: type, length, time, start, end, step, and 8 that are passed over.
 const TYPE: usize = 2;
@@ -60,11 +60,10 @@ fn dad_given(st: ChemstationDadState, d: Delta, n: usize) -> Given
 
 // The point at a position.
 // Kept: beside mwd_point and uv_point, which are alike (d): two lines each, of which one calls the kind's own function.
-fn dad_point(st: ChemstationDadState, s: &[u8], at: usize, last: bool) -> Result<Given, Stopped>
-    requires { at ≤ length s.now }
-    ensures { answer_of result ≡ map_read (stepped (sum_of (State.Dad st))) (read_at last (dad_point st []) at s.now) }
+fn dad_point(st: ChemstationDadState, input: Input<'_>) -> Result<Given, Stopped>
+    ensures { answer_of result ≡ map_read (stepped (sum_of (State.Dad st))) (read_at input.entry.last (dad_point st []) input.entry.at input.entry.bytes.now) }
 {
-    let (d, n) = delta_at(Endian::Little, s, at, last)?;
+    let (d, n) = delta_at(Endian::Little, input)?;
     Ok(dad_given(st, d, n))
 }
 
@@ -98,7 +97,12 @@ fn dad_scan(st: ChemstationDadState, s: &[u8], last: bool) -> Result<Given, Stop
         wv_step: f64::from(u16::le_at(s, 12)),
         stored_time,
     };
-    dad_point(state, s, HEAD, last)
+    let input = Input {
+        bytes: s,
+        at: HEAD,
+        last,
+    };
+    dad_point(state, input)
 }
 
 // The next record of DAD.
@@ -116,5 +120,10 @@ pub fn dad_next(st: ChemstationDadState, s: &[u8], last: bool) -> Result<Given, 
         cur_wv: st.cur_wv + st.wv_step,
         ..st
     };
-    dad_point(state, s, 0, last)
+    let input = Input {
+        bytes: s,
+        at: 0,
+        last,
+    };
+    dad_point(state, input)
 }

@@ -230,22 +230,31 @@ impl Delta {
     }
 }
 
+// Bytes from a position on, and whether no more come after them.
+#[derive(Clone, Copy)]
+pub struct Input<'a> {
+    pub bytes: &'a [u8],
+    pub at: usize,
+    pub last: bool,
+    pub ghost within: { at ≤ length bytes.now },
+}
+
 // The delta at a position and the position after it, or why there is none.
-// Kept: bytes, position and whether they are the last as three (d): each kind would begin with `Input { bytes: s, at: 0, last }`, and a
-// clause would read i.bytes.now, i.at and i.last where it now reads s.now, at and last, the three that `read_at` takes.
-pub fn delta_at(order: Endian, s: &[u8], at: usize, last: bool) -> Result<(Delta, usize), Stopped>
-    requires { at ≤ length s.now }
-    ensures { delta_read result ≡ read_at last (delta (order_of order)) at s.now }
+pub fn delta_at(order: Endian, input: Input<'_>) -> Result<(Delta, usize), Stopped>
+    ensures { delta_read result ≡ read_at input.entry.last (delta (order_of order)) input.entry.at input.entry.bytes.now }
 {
-    if s.len() - at < 2 {
-        return Err(error::lacking(last, false));
+    if input.bytes.len() - input.at < 2 {
+        return Err(error::lacking(input.last, false));
     }
-    let v = i16::in_order(order, s, at);
+    let v = i16::in_order(order, input.bytes, input.at);
     if v != -32768 {
-        return Ok((Delta::By(v), at + 2));
+        return Ok((Delta::By(v), input.at + 2));
     }
-    if s.len() - at < 6 {
-        return Err(error::lacking(last, false));
+    if input.bytes.len() - input.at < 6 {
+        return Err(error::lacking(input.last, false));
     }
-    Ok((Delta::Absolute(i32::in_order(order, s, at + 2)), at + 6))
+    Ok((
+        Delta::Absolute(i32::in_order(order, input.bytes, input.at + 2)),
+        input.at + 6,
+    ))
 }

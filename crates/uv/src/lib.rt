@@ -1,7 +1,7 @@
 // UV: the record stream of an ultraviolet detector.
 #![tactic(auto)]
 
-ghost use Rattle.std.specs.Prelude.{◌≡◌, [], ◌≤◌, ◌<◌, length, Ok};
+ghost use Rattle.std.specs.Prelude.{◌≡◌, [], ◌≤◌, ◌<◌, Ok};
 ghost use Rattle.rules.specs.Rule.{got, read, read_at, map_read};
 ghost use Rattle.floats.specs.Wholes.{doubles, flat};
 ghost use Rattle.streams.specs.Next.{sum_of, item_of, stepped, rule_by, answer_of};
@@ -10,7 +10,7 @@ ghost use Rattle.uv.specs.Uv.{uv_made, uv_point, uv_begun, uv_scan, uv_left, uv_
 use common::{Endian, Number};
 use error::{Refusal, Stopped, lacking};
 use floats::minutes_of;
-use streams::{ChemstationUvState, Given, Points, Record, Scans, State, delta_at};
+use streams::{ChemstationUvState, Given, Input, Points, Record, Scans, State, delta_at};
 
 // Bytes of a scan's head: 4 that are passed over, time, start and end; then its step; then 8 more that are passed over.
 const RANGE: usize = 4 + 4 + 2 + 2;
@@ -50,18 +50,11 @@ fn uv_given(st: ChemstationUvState, scans: Scans, value: f64, n: usize) -> Given
 
 // The point at a position, with the scans that are due after it.
 // Kept: beside mwd_point and dad_point, which are alike (d): two lines each, of which one calls the kind's own function.
-fn uv_point(
-    st: ChemstationUvState,
-    scans: Scans,
-    s: &[u8],
-    at: usize,
-    last: bool,
-) -> Result<Given, Stopped>
-    requires nonzero { 0 < st.n_wvs_left.0 }
-    requires at_in_bounds { at ≤ length s.now }
-    ensures { answer_of result ≡ map_read (stepped (sum_of (State.Uv st))) (read_at last (uv_point st scans []) at s.now) }
+fn uv_point(st: ChemstationUvState, scans: Scans, input: Input<'_>) -> Result<Given, Stopped>
+    requires { 0 < st.n_wvs_left.0 }
+    ensures { answer_of result ≡ map_read (stepped (sum_of (State.Uv st))) (read_at input.entry.last (uv_point st scans []) input.entry.at input.entry.bytes.now) }
 {
-    let (d, n) = delta_at(Endian::Little, s, at, last)?;
+    let (d, n) = delta_at(Endian::Little, input)?;
     let value = d.applied_to(st.cur_intensity);
     Ok(uv_given(st, scans, value, n))
 }
@@ -120,7 +113,12 @@ fn uv_scan(st: ChemstationUvState, s: &[u8], last: bool) -> Result<Given, Stoppe
         return Err(lacking(last, false));
     }
     let begun = uv_begun(st, time, start, end, step);
-    uv_point(begun, st.n_scans_left, s, HEAD, last)
+    let input = Input {
+        bytes: s,
+        at: HEAD,
+        last,
+    };
+    uv_point(begun, st.n_scans_left, input)
 }
 
 // The scans due after a later point of a scan: one whose first point is its last is never debited.
@@ -148,5 +146,10 @@ pub fn uv_next(st: ChemstationUvState, s: &[u8], last: bool) -> Result<Given, St
     if st.n_wvs_left.0 == 0 {
         return uv_scan(st, s, last);
     }
-    uv_point(st, scans_left(st), s, 0, last)
+    let input = Input {
+        bytes: s,
+        at: 0,
+        last,
+    };
+    uv_point(st, scans_left(st), input)
 }
