@@ -16,9 +16,6 @@ pub loop-own-init : goal.loop-own-init
 loop-own-init c =
     (c.start-sum.result.far, logging_start _ _ _ _ _ _ c.requires.0 c.requires.1, subst (λ (s : Tally). StandsFor s s.far) (sym c.start-sum.ensures) (starts _))
 
-pub overflow_sub-own : goal.overflow_sub-own
-overflow_sub-own c = omega (arith, c.loop-own.invariant.1.put.put.fits, c.loop-own.invariant.1.put.put.same)
-
 -- the total before the loop is the one that was given
 pub returns-in-Err : goal.returns-in-Err
 returns-in-Err c =
@@ -38,9 +35,6 @@ loop-own-preserved c =
 
 pub overflow_add-f : goal.overflow_add-f
 overflow_add-f c = omega (arith, (loop-own-preserved c).1.inside)
-
-pub overflow_add-count : goal.overflow_add-count
-overflow_add-count c = omega (arith, (loop-own-preserved c).1.few, c.put_record.ensures.upper_bound)
 
 pub loop-own-smaller : goal.loop-own-smaller
 loop-own-smaller c =
