@@ -134,8 +134,9 @@ fn first_piece(s: &[u8]) -> Piece
 }
 
 // The pieces of the UTF-16 that is left, from the front. An odd byte at the end is none.
-// Kept: `char::decode_utf16` over `s.chunks_exact(2).map(..)` was tried once, in `measured`: what it returns stayed open
-// (`returns-in_err-left`), since no lemma of std joins the unit that the iterator has looked at, and the chunks behind it, to a text (c).
+// Kept: `char::decode_utf16` over `s.chunks_exact(2).map(..)` was tried once, in `measured`, and what that returns stayed open
+// (`returns-in_err-left`): an invariant has to tie the unit that was looked at, and the chunks behind it, to the text, and no lemma of std leads
+// from the iterator's steps to `utf16_chars` (c).
 #[derive(Drop)]
 struct Pieces<'a>(&'a [u8]);
 
