@@ -6,7 +6,6 @@ ghost use Rattle.demand3.specs.Demand3.{Demand3Holds};
 ghost use Rattle.demand3.specs.Specimens.{specimens, atlas_specimens, AllGive};
 
 // Demand 3, over all kinds, both readings and a whole list of calls.
-#[tactic(auto, using(crate::proofs::Demand3::demand3))]
 pub fn demand_three()
     ensures { Demand3Holds }
 {}
