@@ -45,7 +45,7 @@ pub fn next_record_mut(st: &mut State, s: &[u8], last: bool) -> Result<Shown, St
 // ---- the reader
 
 // The next record from a position on; none from one at or past the end. The position after it is behind the bytes that it took.
-// Kept: (a) a slice with a position: for callers that hold the two themselves.
+// Kept: (a) a slice with a position, a public function as before: for callers that hold the two themselves (docs/DECISIONS.md, 14).
 pub fn next_at(st: State, s: &[u8], at: usize, last: bool) -> Result<Given, Stopped>
     ensures { answer_of result ≡ read last (rule st) (drop at s.now) }
 {

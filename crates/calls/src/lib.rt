@@ -200,7 +200,7 @@ pub fn make_calls(
     if !columns.are_even() {
         return Err(NoRoom::Unequal);
     }
-    // Kept: (d) `.ok_or(NoRoom::Short)?` was tried: it is no shorter, and puts two more steps between the call and its clause.
+    // Kept: (c) `.ok_or(NoRoom::Short)?` was tried: it puts two more steps between the call and its clause, and the proof did not close.
     let Some(n) = asked_by_all(calls, columns.time.len()) else {
         return Err(NoRoom::Short);
     };

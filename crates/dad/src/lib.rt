@@ -59,7 +59,7 @@ fn dad_given(st: ChemstationDadState, d: Delta, n: usize) -> Given
 }
 
 // The point at a position.
-// Kept: beside mwd_point and uv_point, which are alike (d): two lines each, of which one calls the kind's own function.
+// Kept: beside mwd_point and uv_point, which are alike (d): two or three lines each, of which the last is the kind's own.
 fn dad_point(st: ChemstationDadState, input: Input<'_>) -> Result<Given, Stopped>
     ensures { answer_of result ≡ map_read (stepped (sum_of (State.Dad st))) (read_at input.entry.last (dad_point st []) input.entry.at input.entry.bytes.now) }
 {

@@ -60,8 +60,6 @@ impl From<Refusal> for Stopped {
 }
 
 // What is answered where a due field ends past the bytes, told whether they are the last, by whether the file may end before it.
-// Kept: (d) each caller tests for the bytes of its own field, in three lines: a function of the count, with `?`, would leave it to a clause how many
-// bytes are then there, where each read now has it from the test before it.
 pub fn lacking(last: bool, may_end: bool) -> Stopped
     ensures { stop_of result ≡ lacks last may_end [] }
 {

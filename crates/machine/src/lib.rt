@@ -61,8 +61,8 @@ fn log_hand(st: State, p: Place, buf: &mut [u8], out: &mut [u8]) -> Ask
 }
 
 // The total before the first record: an array's values are not added up.
-// Kept: (d) the log's definition of it is over the number of the kind, as the caller gives it: by a kind made of that number, or by the
-// state that was opened, it would be the same test behind one more step.
+// Kept: (d) the number, since the log's definition is over it: by the state that was opened it would be as short, and want a lemma that
+// kind 6 alone opens an array.
 fn first_total(kind: u8) -> Total
     ensures { result ≡ first_total kind }
 {

@@ -31,6 +31,7 @@ pub fn open_atlas(kind: u8, s: &[u8], last: bool) -> Result<OpenedRun, Stopped>
 }
 
 // Opens a run by a reading.
+// Kept: (d) a match on the reading: an enum of two cases, each with a function of its own.
 pub fn open_by(mode: Mode, kind: u8, s: &[u8], last: bool) -> Result<OpenedRun, Stopped>
     ensures { OpensBy mode kind last s.now result }
 {

@@ -34,8 +34,8 @@ pub enum Phase {
 
 // Where a run stands.
 // Kept: (d) the buffers stay parameters beside it, and facts of them in the contracts: a step takes any place and any buffers, and closes
-// what lies outside, so the facts are not the place's own; and each function asks for another two or three of the five, so that no one
-// struct of place and buffers with ghost fields would be all of theirs.
+// what lies outside, so the facts are not the place's own; and each function asks for another one, two or three of the five, so that
+// no one struct of place and buffers with ghost fields would be all of theirs.
 #[derive(Clone, Copy)]
 pub struct Place {
     pub phase: Phase,

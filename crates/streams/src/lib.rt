@@ -143,8 +143,8 @@ pub struct ChemstationArrayState {
 // The state of a kind under the plain reading; DAD and UV under the atlas reading too.
 // Kept: the atlas reading as two cases of their own (b): `Dad(ChemstationDadState, Mode)` and `Uv(ChemstationUvState, Mode)` were tried and
 // proved. The library's Fill columns then took, instructions a record, FID 89.0 (70.0 in this form), MS 110.5 (104.4), MWD 103.1 (97.2),
-// DAD 96.4 (81.5), UV 95.4 (80.4), array 84.0 (68.0). With the Mode first Fill and the log are dearer too, and with a field of the two
-// structs the log is.
+// DAD 96.4 (81.5), UV 95.4 (80.4), array 84.0 (68.0). With the Mode first, or in a field of the two structs,
+// the log is dearer too.
 #[derive(Clone, Copy)]
 pub enum State {
     Fid(ChemstationFidState),

@@ -53,7 +53,8 @@ fn fit(d: &Described<'_>, room: usize) -> bool
 }
 
 // Puts the eight texts of a header at the start of out, which has room for them, and says where.
-// Kept: the bytes, the starts and the lengths, here and in `fetch_texts`. C lends the three one by one, and these two functions take them. (a)
+// Kept: the bytes, the starts and the lengths are the parameters of `fetch_texts`, as C lends the three one by one (a); a struct would be made
+// there only to be taken apart here (d).
 fn lay_out(
     d: &Described<'_>,
     out: &mut [u8],

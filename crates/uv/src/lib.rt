@@ -49,7 +49,7 @@ fn uv_given(st: ChemstationUvState, scans: Scans, value: f64, n: usize) -> Given
 }
 
 // The point at a position, with the scans that are due after it.
-// Kept: beside mwd_point and dad_point, which are alike (d): two lines each, of which one calls the kind's own function.
+// Kept: beside mwd_point and dad_point, which are alike (d): two or three lines each, of which the last is the kind's own.
 fn uv_point(st: ChemstationUvState, scans: Scans, input: Input<'_>) -> Result<Given, Stopped>
     requires { 0 < st.n_wvs_left.0 }
     ensures { answer_of result ≡ map_read (stepped (sum_of (State.Uv st))) (read_at input.entry.last (uv_point st scans []) input.entry.at input.entry.bytes.now) }
@@ -60,7 +60,7 @@ fn uv_point(st: ChemstationUvState, scans: Scans, input: Input<'_>) -> Result<Gi
 }
 
 // A new scan, before its first point: a step behind it, with value 0.
-// Kept: time, start, end and step as four (d): uv_scan reads each and tests it before the next is due, and they go together through this
+// Kept: time, start, end and step as four (d): uv_scan tests start and end before the step is due, and they go together through this
 // call alone, so that a struct of them would be made and taken apart in two neighbouring lines.
 #[tactic(auto, using(crate::proofs::UvLaws::zero_is, crate::proofs::UvLaws::twenty_is))]
 fn uv_begun(
