@@ -27,7 +27,7 @@ pub struct Logged {
 
 // Reads records from src at index from on, adds their unscaled values to the total and puts their lines by the pen, until its memory
 // has no room for a line or there is another answer than a record.
-// Kept: (a) a slice and a position beside it: by the project's rule a reader stands on functions over a slice and a number.
+// Kept: (a) a position beside the bytes: a public function, whose promise over any position stays.
 pub fn log_records(
     st: State,
     src: &[u8],
