@@ -51,12 +51,13 @@ fn header_size(kind: Kind, word: u32) -> usize
     if kind == Kind::Ms { size } else { size * 256 }
 }
 
-// The size of a file's header in bytes, all of which are there, or why there is none.
-// Kept: the kind, the bytes and whether they are the last side by side, as the C interface hands them over.
-pub fn read_agilent_header(kind: u8, s: &[u8], last: bool) -> Result<usize, Stopped>
-    ensures { size_read result ≡ read last (size_rule kind) s.now }
+// The size in bytes of the header of a file of a kind, all of which are there, or why there is none.
+// Kept: the kind, the bytes and whether they are the last, side by side. No fact ties them, and a struct of the three would be made
+// in each function above that hands them on, to be read here alone. (d)
+#[tactic(auto, using(crate::proofs::HeaderLaws::is_known, crate::proofs::HeaderLaws::size_short, crate::proofs::HeaderLaws::size_word, crate::proofs::HeaderLaws::size_small, crate::proofs::HeaderLaws::size_large, crate::proofs::HeaderLaws::size_cut, crate::proofs::HeaderLaws::size_whole))]
+pub fn read_agilent_header_of(kind: Kind, s: &[u8], last: bool) -> Result<usize, Stopped>
+    ensures { size_read result ≡ read last (size_rule (kind_number kind)) s.now }
 {
-    let kind = Kind::try_from(kind)?;
     if s.len() < 268 {
         return Err(lacking(last, false));
     }
@@ -76,4 +77,12 @@ pub fn read_agilent_header(kind: u8, s: &[u8], last: bool) -> Result<usize, Stop
     } else {
         Ok(size)
     }
+}
+
+// The same by the kind's number.
+#[tactic(auto, using(std::proofs::lemmas::Result::err_from_is_err_and, crate::proofs::HeaderLaws::size_unknown))]
+pub fn read_agilent_header(kind: u8, s: &[u8], last: bool) -> Result<usize, Stopped>
+    ensures { size_read result ≡ read last (size_rule kind) s.now }
+{
+    read_agilent_header_of(Kind::try_from(kind)?, s, last)
 }

@@ -73,8 +73,11 @@ fn scans_by(debit: Option<Scans>, scans: Scans, due: usize) -> Scans
     }
 }
 
-// The state after a point, by the reading and the state that the plain rule makes; no point of DAD or UV leads to another kind. A plain
-// state is made anew too: handed on as it is, it cost each record more instructions (docs/BENCHMARKS.md).
+// The state after a point, by the reading and the state that the plain rule makes; no point of DAD or UV leads to another kind.
+// Kept: a plain state is made anew too (b): handed on as it is, a DAD record of Fill columns took 101.6 instructions for 84.4, by an older
+// Rattle (docs/BENCHMARKS.md).
+// Kept: two arms that are alike (d): a generic function over the two states would need a trait with four members, to set the scans, to read
+// what is due, and the two cases, for two arms of nine lines.
 fn after_by(debit: Option<Scans>, st: State) -> State
     ensures { result ≡ after_by debit st }
 {

@@ -7,8 +7,12 @@ use Rattle.error.specs.declared.Stopped.{Stopped}
 use Rattle.chemstation.specs.Next.{rule}
 use Rattle.streams.specs.declared.State.{State}
 use Rattle.streams.specs.declared.Record.{Record}
+use Rattle.streams.specs.declared.Given.{Given}
 use Rattle.borrowed.specs.declared.Shown.{Shown}
 use Rattle.borrowed.specs.declared.Reader.{Reader}
+
+abbrev pub shown_from : Given → Shown
+shown_from g = record { «record» = g.«record»; bytes = g.bytes }
 
 abbrev pub shown_of : Result Shown Stopped → Read Record
 shown_of (Ok r) = got r.«record» r.bytes

@@ -6,7 +6,7 @@ ghost use Rattle.std.specs.Prelude.{◌≡◌, length, drop};
 ghost use Rattle.rules.specs.Rule.{read};
 ghost use Rattle.chemstation.specs.Next.{rule};
 ghost use Rattle.streams.specs.Next.{answer_of};
-ghost use Rattle.borrowed.specs.Borrowed.{shown_of, shown_by, state_by, taken_by, unread, moved};
+ghost use Rattle.borrowed.specs.Borrowed.{shown_from, shown_of, shown_by, state_by, taken_by, unread, moved};
 
 use chemstation::next_record;
 use error::Stopped;
@@ -21,6 +21,17 @@ pub struct Shown {
     pub bytes: usize,
 }
 
+impl From<Given> for Shown {
+    ghost from_gives = { λ given shown. shown ≡ shown_from given };
+
+    fn from(given: Given) -> Shown {
+        Shown {
+            record: given.record,
+            bytes: given.bytes,
+        }
+    }
+}
+
 // The next record; the state after it is stored where the caller's stood. A refusal, 'finished' and 'more bytes' leave it.
 pub fn next_record_mut(st: &mut State, s: &[u8], last: bool) -> Result<Shown, Stopped>
     ensures shown { shown_of result ≡ shown_by st.old last s.now }
@@ -28,15 +39,13 @@ pub fn next_record_mut(st: &mut State, s: &[u8], last: bool) -> Result<Shown, St
 {
     let given = next_record(*st, s, last)?;
     *st = given.state;
-    Ok(Shown {
-        record: given.record,
-        bytes: given.bytes,
-    })
+    Ok(given.into())
 }
 
 // ---- the reader
 
 // The next record from a position on; none from one at or past the end. The position after it is behind the bytes that it took.
+// Kept: (a) a slice with a position, a public function as before: for callers that hold the two themselves (docs/DECISIONS.md, 14).
 pub fn next_at(st: State, s: &[u8], at: usize, last: bool) -> Result<Given, Stopped>
     ensures { answer_of result ≡ read last (rule st) (drop at s.now) }
 {
@@ -44,7 +53,9 @@ pub fn next_at(st: State, s: &[u8], at: usize, last: bool) -> Result<Given, Stop
 }
 
 // The bytes and the position that counts over them.
-#[derive(Clone, Copy)]
+// Kept: (a) a slice with a position, not a slice that shrinks: by a rule of the project the position travels with the bytes that it counts
+// over, and a caller may set one past their end.
+#[derive(Clone, Copy, Debug, PartialEq, Eq)]
 pub struct Reader<'a> {
     pub bytes: &'a [u8],
     pub at: usize,

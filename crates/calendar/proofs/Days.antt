@@ -1,12 +1,16 @@
 -- The sums of days, by tests that are computed over all years and months.
-use mathlib.Core.Path.{◌≡◌, refl, ap}
+use mathlib.Core.Path.{◌≡◌, refl, ap, ◌∙◌}
+use mathlib.Core.List.{map}
 use mathlib.Core.Bool.{Bool, true, false, cond, ◌&&◌}
 use Prim.Native.Nat.{ℕ, zero, suc, ◌+◌, ◌*◌, ◌/◌, ◌≤◌, ◌<◌}
+use native.Mathlib.Numerals.{add-one}
 use native.Mathlib.Omega.{arith}
 use lib.Dec.{leb, eqb}
 use lib.ListN.{get_or, get_or-eq_default}
 use borrow.Author.Tests.{eqb-true, leb-true, leb-false, ne_eqb}
 use borrow.Table.Steps.{cases as by}
+use Rattle.std.specs.List.{sum, range_with_len}
+use Rattle.std.proofs.lemmas.List.FromFn.{sum_by-map-range_with_len_more}
 use Rattle.utf8.proofs.Cases.{least, most, inside, every, each}
 use Rattle.calendar.specs.Calendar.{leap, common_days, days_in, is_day, before_month, of_years}
 
@@ -33,6 +37,14 @@ by_leap : (y m : ℕ) → before_month y m ≡ before_in (leap y) m
 unfolding before_month days_in before_in
 by_leap y zero = refl
 by_leap y (suc m) = ap (λ (n : ℕ). n + (get_or common_days m 0 + cond (eqb m 2 && leap y) 1 0)) (by_leap y m)
+
+-- what the code adds up
+pub months_sum : (y m : ℕ) → sum (map (days_in y) (range_with_len 0 m)) ≡ before_month y m
+unfolding before_month
+months_sum y zero = refl
+months_sum y (suc m) =
+    let more = rw (add-one m) at (sum_by-map-range_with_len_more (λ (n : ℕ). n) (days_in y) 0 m m (omega arith)) in
+    more ∙ ap (λ (n : ℕ). n + days_in y m) (months_sum y m)
 
 abbrev few : Bool → ℕ → Bool
 few b m = leb (before_in b m) 335

@@ -7,7 +7,7 @@ use native.Mathlib.Omega.{arith}
 use lib.Dec.{leb, ltb}
 use borrow.Author.Tests.{ltb-true, ltb-false, leb-true, leb-false}
 use borrow.Table.Steps.{cases as by}
-use Rattle.utf8.proofs.Cases.{least, most, inside, never}
+use Rattle.utf8.proofs.Cases.{most, inside, never}
 use Rattle.calendar.specs.declared.Moment.{Moment}
 use Rattle.calendar.specs.Calendar.{leap, days_in, before_month, of_years, day_number, is_day, Day, valid, number, next, InRange, instant_of, CalendarDays}
 use Rattle.calendar.proofs.Days.{years_sum, most_before, day_within, first_day, a_month}
@@ -18,10 +18,6 @@ unfolding is_day
 last_day y m d e f = by (leb (d + 1) (days_in y m))
     (λ t. never (inside 1 (days_in y m) (d + 1) (omega arith) (leb-true (d + 1) (days_in y m) t)) f)
     (λ n. omega (arith, leb-false (d + 1) (days_in y m) n, most 1 (days_in y m) d e))
-
-positive : (y m d : ℕ) → is_day y m d ≡ true → 1 ≤ d
-unfolding is_day
-positive y m d e = least 1 (days_in y m) d e
 
 in_month : (y m d : ℕ) → 1 ≤ d → day_number y m (d + 1) ≡ day_number y m d + 1
 unfolding day_number
@@ -53,7 +49,7 @@ onward x l v =
     let y = x.year in
     let m = x.month in
     let d = x.day in
-    let p = positive y m d v in
+    let p = (day_within y m d v).0 in
     by (is_day y m (d + 1)) (λ t. rw t (in_month y m d p, t)) (λ f.
     let e = last_day y m d v f in
     by (ltb m 12)

@@ -15,9 +15,6 @@ pub struct Moment {
     pub second: u8,
 }
 
-// By month, from 0, which is none: the days of the month in a common year.
-const DAYS: [u8; 13] = [0, 31, 28, 31, 30, 31, 30, 31, 31, 30, 31, 30, 31];
-
 #[tactic(auto, unfolding(crate::specs::Calendar::leap))]
 fn is_leap(year: u16) -> bool
     ensures { result ≡ leap year }
@@ -25,28 +22,28 @@ fn is_leap(year: u16) -> bool
     year % 4 == 0 && (year % 100 != 0 || year % 400 == 0)
 }
 
-// The days of a month; behind the twelfth there is none.
+// The days of a month; what is no month has none.
 #[tactic(auto, using(crate::proofs::Days::month_days), unfolding(crate::specs::Calendar::days_in))]
 fn days_in(year: u16, month: u8) -> u8
     ensures days { result ≡ days_in year month }
     ensures few { result ≤ 31 }
 {
-    if month == 2 && is_leap(year) {
-        return 29;
+    match month {
+        2 if is_leap(year) => 29,
+        2 => 28,
+        4 | 6 | 9 | 11 => 30,
+        1..=12 => 31,
+        _ => 0,
     }
-    DAYS.get(usize::from(month)).copied().unwrap_or(0)
 }
 
 // The days of a year before a month.
-#[tactic(auto, unfolding(crate::specs::Calendar::before_month))]
 fn before_month(year: u16, month: u8) -> u16
     ensures { result ≡ before_month year month }
 {
-    let mut days = 0;
-    for earlier in 0..month {
-        days += u16::from(days_in(year, earlier));
-    }
-    days
+    (0..month)
+        .map(|earlier| u16::from(days_in(year, earlier)))
+        .sum()
 }
 
 // The days of so many years from 1969 on; every fourth year, 1972 first, has one more.

@@ -25,7 +25,6 @@ use Rattle.reader.proofs.ColumnLaws.{even_if}
 use Rattle.demand3.specs.Demand3.{Demand3, Demand3Holds}
 use Rattle.calls.specs.MakeCalls.{asked_in, ComesTo, Makes}
 use Rattle.calls.specs.declared.Rows.{Rows}
-use Rattle.calls.specs.declared.NoRoom.{NoRoom}
 use Rattle.std.specs.Prelude.{Some, None, Result, Ok, Err}
 
 -- what Open's contract says of the rule of opening: the one place that cites it

@@ -1,7 +1,7 @@
 -- The calls of demand 3, made by the code: which call is made, and what all of them answer.
 use Rattle.std.specs.Prelude.{◌≡◌, cond, List, ◌++◌, map, ℕ, ◌≤◌, leb, length, take, drop, Option, Some, None, Result, Ok, Err}
 use denote.Triple.Both.{Both}
-use Rattle.rules.specs.Calls.{Answer, Reading, Result as Called, full, stopped, Call, next, fill, fill_unequal, asks, asked, call, by_calls}
+use Rattle.rules.specs.Calls.{Answer, Reading, Result as Called, full, stopped, Call, next, fill, fill_unequal, asked, call, by_calls}
 use Rattle.common.specs.Bytes.{AreBytes}
 use Rattle.streams.specs.declared.State.{State}
 use Rattle.streams.specs.declared.Record.{Record}

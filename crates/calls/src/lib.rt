@@ -23,7 +23,7 @@ pub enum Call {
 }
 
 // What the calls answer: N, the count of rows and Z.
-#[derive(Clone, Copy)]
+#[derive(Clone, Copy, Debug, PartialEq, Eq)]
 pub struct Rows {
     pub asked: usize,
     pub count: usize,
@@ -53,6 +53,7 @@ impl Call {
 }
 
 // How many records the calls ask for, N, which may be larger than any number here; if it is at most so many.
+#[tactic(auto, using(crate::proofs::Calling::calls_at, crate::proofs::Calling::calls_end, std::proofs::lemmas::Bool::Decides::nat_tests), unfolding(rules::specs::Calls::asked))]
 fn asked_by_all(calls: &[Call], most: usize) -> Option<usize>
     ensures { result ≡ asked_in most (asked (calls_of calls.now)) }
 {
@@ -68,6 +69,9 @@ fn asked_by_all(calls: &[Call], most: usize) -> Option<usize>
 }
 
 // Next record by value as a call: its record becomes row i.
+// Kept: (c) `Room` in the contracts here, of `Columns::put`, `one_call` and `calls_from`: a ghost field for it would stand in a struct made of
+// the lent columns' parts, which the checker does not cover; and it has another count of rows at each.
+// Kept: (d) what no record fills is written out here and in reader's `fill_columns`: a function for it would be as long as the two.
 fn next_row(st: State, s: &[u8], i: usize, columns: &mut Columns<'_>) -> Filled
     requires { Room (i + 1) (held columns.old) }
     ensures same { AreTheSame columns.old columns.new }
@@ -118,6 +122,7 @@ fn fill_unequal(st: State, s: &[u8]) -> Filled
 }
 
 // One call, whose rows go into the columns from row i on.
+// Kept: (d) a match on which call it is: the calls are data, and the contracts speak of lists of them, which of closures they could not.
 fn one_call(call: Call, st: State, s: &[u8], i: usize, columns: &mut Columns<'_>) -> Filled
     requires { Room (i + asks (call_of call)) (held columns.old) }
     ensures same { AreTheSame columns.old columns.new }
@@ -140,20 +145,20 @@ fn one_call(call: Call, st: State, s: &[u8], i: usize, columns: &mut Columns<'_>
     }
 }
 
-// Z so far, and then a call that gave so many records and closed so.
-fn first_fewer(
-    z: Result<(), Stopped>,
-    call: Call,
-    count: usize,
-    closing: Result<(), Stopped>,
-) -> Result<(), Stopped>
-    ensures { closing_of result ≡ or_else (closing_of z) (cond (ltb count (asks (call_of call))) (closing_of closing) full) }
+// Z so far, and then what a call gave.
+fn first_fewer(z: Result<(), Stopped>, call: Call, f: Filled) -> Result<(), Stopped>
+    ensures { closing_of result ≡ or_else (closing_of z) (cond (ltb f.count (asks (call_of call))) (closing_of f.closing) full) }
 {
     z?;
-    if count < call.asks() { closing } else { Ok(()) }
+    if f.count < call.asks() {
+        f.closing
+    } else {
+        Ok(())
+    }
 }
 
 // Makes the calls, which ask for n records, from a state on: over the bytes behind the header.
+#[tactic(auto, using(crate::proofs::CallLoop::going_more, reader::proofs::ColumnLaws::same_still))]
 fn calls_from(n: usize, st: State, s: &[u8], calls: &[Call], columns: &mut Columns<'_>) -> Rows
     requires { Room n (held columns.old) × (n ≡ asked (calls_of calls.now)) }
     ensures same { AreTheSame columns.old columns.new }
@@ -165,7 +170,7 @@ fn calls_from(n: usize, st: State, s: &[u8], calls: &[Call], columns: &mut Colum
     let mut closing = Ok(());
     for call in calls {
         let f = one_call(*call, cur, &s[at..], rows, columns);
-        closing = first_fewer(closing, *call, f.count, f.closing);
+        closing = first_fewer(closing, *call, f);
         cur = f.state;
         at += f.consumed;
         rows += f.count;
@@ -179,6 +184,8 @@ fn calls_from(n: usize, st: State, s: &[u8], calls: &[Call], columns: &mut Colum
 
 // Opens a file by a reading, told that its bytes are not the last, and makes the calls: N, the count of rows and Z, with the rows in the
 // lent columns.
+// Kept: (a) a number for the kind, any at all: Open refuses what is no kind, and a narrower type would ask more of the caller.
+#[tactic(auto, using(crate::proofs::Opened::opened, crate::proofs::Opened::accepted, crate::proofs::Opened::has_room, rules::proofs::Laws::taken_within))]
 pub fn make_calls(
     mode: Mode,
     kind: u8,
@@ -193,6 +200,7 @@ pub fn make_calls(
     if !columns.are_even() {
         return Err(NoRoom::Unequal);
     }
+    // Kept: (c) `.ok_or(NoRoom::Short)?` was tried: it puts two more steps between the call and its clause, and the proof did not close.
     let Some(n) = asked_by_all(calls, columns.time.len()) else {
         return Err(NoRoom::Short);
     };

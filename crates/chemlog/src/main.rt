@@ -1,16 +1,12 @@
 // Writes the log of a run: a kind digit and the file from standard input, the log to standard output.
 #![tactic(auto)]
 
-// Kept: (a) two programs, each with a main of its own: they differ in the reading alone, and share the rest.
+// Kept: (a) a program for each reading (docs/changes/05.md), and a main of its own: only a main takes the streams of the system.
 fn main(rt: HostRuntime) {
-    let mut buf = [0u8; 32768];
-    let mut out = [0u8; 32768];
-    logger::log_input(
+    logger::run(
         streams::Mode::Plain,
         &mut rt.stdin(),
         &mut rt.stdout(),
         &mut rt.stderr(),
-        &mut buf,
-        &mut out,
     );
 }

@@ -14,10 +14,9 @@ use Rattle.error.specs.Number.{stop_of, stop_number, closing_number}
 use Rattle.metadata.specs.Metadata.{Header}
 use Rattle.fetch.specs.Fetch.{outcome_of, Fetches}
 use Rattle.texts.specs.Eight.{Texts, FetchesAll}
-use Rattle.metadata.specs.declared.ChemstationMetadata.{ChemstationMetadata}
 use Rattle.std.specs.Prelude.{Result}
 use Rattle.error.specs.declared.Refusal.{Refusal}
-use Rattle.fetch.specs.declared.FetchedText.{FetchedText}
+use Rattle.utf16.specs.declared.Recoded.{Recoded}
 use Rattle.texts.specs.declared.FetchedTexts.{FetchedTexts}
 use Rattle.texts.specs.Eight as eight
 use Rattle.streams.specs.declared.State.{State}
@@ -72,12 +71,16 @@ pub opens_into : {mode : Mode} {kind : ℕ} {last : Bool} {s : List ℕ} {r : Re
 opens_into {mode = mode} {kind} {last} {s} {r = r} a old o e =
     opened_into mode kind _ a old (begun mode kind last s) (ap start_read (sym e) ∙ state_of_lem o) (ap says_read (sym e) ∙ says_of o)
 
+-- the same memory, said otherwise
+pub opens_held : {mode : Mode} {kind n : ℕ} {x : Read Header} {old new held : Run} → new ≡ held → OpensInto mode kind x n (record { entry = old; exit = held }) → OpensInto mode kind x n (record { entry = old; exit = new })
+opens_held {mode} {kind} {n} {x} {old} e o = subst (λ m. OpensInto mode kind x n (record { entry = old; exit = m })) (sym e) o
+
 -- ---- Fetch a text
 
 pub texts_into : {x : Read (List (List ℕ))} {f : Result FetchedTexts Refusal} {m : Both Texts Texts} → FetchesAll f m x → TextsInto x (outcome_number (eight.outcome_of f)) m
 texts_into h = record { answer = ap outcome_number h.answer; memory = h.memory }
 
-pub fetches_into : {x : Read (List ℕ)} {f : Result FetchedText Refusal} {old new : List ℕ} (n : ℕ) → Fetches f old new x →
+pub fetches_into : {x : Read (List ℕ)} {f : Result Recoded Refusal} {old new : List ℕ} (n : ℕ) → Fetches f old new x →
     FetchesInto x (outcome_number (outcome_of f)) (record { entry = record { bytes = old; size = n }; exit = record { bytes = new; size = size_after (outcome_of f) n } })
 fetches_into n h = record { answer = ap outcome_number h.answer; memory = λ j. record { bytes = h.buffer j; size = size_after (h.answer j) n } }
 

@@ -1,10 +1,21 @@
 -- One number for each answer of Open, of Fetch, of a sum, of a run date and of a window; those of the others are in error/specs/Number.
 use Rattle.std.specs.Prelude.{ℕ, Some, None, Ok, Err}
 use Rattle.rules.specs.Rule.{Read, got, stops}
-use Rattle.error.specs.Number.{stop_number, number_of}
+use Rattle.error.specs.Number.{stop_number, number_of, stop_of}
 use Rattle.fetch.specs.Fetch.{Outcome, wrote, refuse}
 use Rattle.volumes.specs.Volume.{Told, instant, no_date, refuse as refuse_date, Place, inside, outside, undated, refused}
 use Rattle.sums.specs.Sums.{AnyTotal}
+use Rattle.chemread.specs.declared.Answer.{Answer}
+use Rattle.chemread.specs.declared.Answer.TheVariants.{Stopped, Full, Given, NoDate, InWindow, OutOfWindow}
+
+-- what a call answers as a number
+abbrev pub answer_number : Answer → ℕ
+answer_number (Stopped z) = stop_number (stop_of z)
+answer_number Full = 102
+answer_number Given = 103
+answer_number NoDate = 104
+answer_number InWindow = 105
+answer_number OutOfWindow = 106
 
 -- 103: a header was opened, a text or all eight fetched, a column added up, or a run date read
 abbrev pub read_number : {A : Type 0} → Read A → ℕ

@@ -14,11 +14,12 @@ use Rattle.streams.specs.declared.Record.{Record}
 use Rattle.modes.specs.Modes.{begins_by}
 use Rattle.reader.specs.Columns.{Held, Lent, columns_with, fill_of}
 use Rattle.streams.specs.Next.{stored_of}
-use Rattle.states.specs.State.{numbers_of, counts_of, state_by}
+use Rattle.states.specs.State.{numbers_of, counts_of, reading_of, state_by}
 use Rattle.error.specs.Number.{closing_number}
 use Rattle.chemread.specs.Answers.{read_number, outcome_number, total_number, told_number}
 use Rattle.volumes.specs.Volume.{Told, instant, no_date, refuse as refuse_date}
 use Rattle.sums.specs.Sums.{AnyTotal}
+use Rattle.chemread.specs.declared.LentRun.{LentRun}
 
 -- ---- Open
 
@@ -39,6 +40,25 @@ lent_run h c s l x n t r = record {
   exit = record { header = h.exit.now; corrections = c.exit.now; text_starts = s.exit.now; text_lengths = l.exit.now; numbers = x.exit.now; counts = n.exit.now; stored = t.exit.now; reading = r.exit.now };
 }
 
+-- what the memory that is lent for a run holds
+abbrev pub held : LentRun → Run
+held r = record { header = r.header.now; corrections = r.corrections.now; text_starts = r.text_starts.now; text_lengths = r.text_lengths.now; numbers = r.numbers.now; counts = r.counts.now; stored = r.stored_time.now; reading = r.reading.now }
+
+-- and before and after a call that it is lent to
+abbrev pub lent : Lent LentRun → Both Run Run
+lent r = record { entry = held r.entry.now; exit = held r.exit.now }
+
+-- it is the same memory as before, whatever stands in it
+pub record AreTheSame (old new : LentRun) : Type 0 where
+  pub header : new.header.ghost_name ≡ old.header.ghost_name
+  pub corrections : new.corrections.ghost_name ≡ old.corrections.ghost_name
+  pub text_starts : new.text_starts.ghost_name ≡ old.text_starts.ghost_name
+  pub text_lengths : new.text_lengths.ghost_name ≡ old.text_lengths.ghost_name
+  pub numbers : new.numbers.ghost_name ≡ old.numbers.ghost_name
+  pub counts : new.counts.ghost_name ≡ old.counts.ghost_name
+  pub stored_time : new.stored_time.ghost_name ≡ old.stored_time.ghost_name
+  pub reading : new.reading.ghost_name ≡ old.reading.ghost_name
+
 -- a reading as a number of the state
 abbrev pub reading_number : Mode → ℕ
 reading_number Plain = 0
@@ -49,6 +69,14 @@ header_of d = d.edition ∷ d.size ∷ d.sequence ∷ d.vial ∷ d.replicate ∷
 
 abbrev pub corrections_of : ChemstationMetadata → List Float
 corrections_of d = d.start_time ∷ d.end_time ∷ d.offset_correction ∷ d.mult_correction ∷ []
+
+-- what a header says, and the rest as it was
+abbrev pub with_header : ChemstationMetadata → Run → Run
+with_header d old = record { header = header_of d; corrections = corrections_of d; text_starts = d.text_starts; text_lengths = d.text_lengths; numbers = old.numbers; counts = old.counts; stored = old.stored; reading = old.reading }
+
+-- a state, and the rest as it was
+abbrev pub with_state : State → Run → Run
+with_state st old = record { header = old.header; corrections = old.corrections; text_starts = old.text_starts; text_lengths = old.text_lengths; numbers = numbers_of st; counts = counts_of st; stored = stored_of st; reading = reading_of st }
 
 abbrev pub opened_as : ℕ → ChemstationMetadata → State → Run
 opened_as reading d st = record {

@@ -1,72 +1,81 @@
-// Open, Fetch a text, all texts at once, Fill columns, the sum of a column, the run date and windows of time for C: include/chemstation.h declares them.
+// What C calls: Open, Fetch a text, all texts at once, Fill columns and the sum of a column, which include/chemstation.h declares; the run date
+// and windows of time, which it declares once docs/run-dates.patch is applied.
 #![tactic(auto)]
 
 ghost use Rattle.std.specs.Prelude.{◌≡◌, true, Some, Ok};
 ghost use Rattle.rules.specs.Rule.{read};
-ghost use Rattle.error.specs.Number.{stop_of, stop_number, closing_number};
+ghost use Rattle.error.specs.Number.{closing_number};
 ghost use Rattle.fetch.specs.Fetch.{fetch_rule, passed};
 ghost use Rattle.texts.specs.Eight.{eight_rule, lent_texts, all_passed};
 ghost use Rattle.modes.specs.Modes.{open_by};
 ghost use Rattle.reader.specs.Columns.{lent_columns, closing_of};
-ghost use Rattle.chemread.specs.Lent.{header_of, corrections_of, lent_run, OpensInto, lent_text, FetchesInto, TextsInto, lent_filling, FillsInto, SumsInto, DatesInto};
-ghost use Rattle.chemread.specs.Answers.{place_number};
+ghost use Rattle.chemread.specs.Lent.{header_of, corrections_of, lent_run, held, lent, AreTheSame, with_header, with_state, OpensInto, lent_text, FetchesInto, TextsInto, lent_filling, FillsInto, SumsInto, DatesInto};
+ghost use Rattle.chemread.specs.Answers.{answer_number, place_number};
 ghost use Rattle.volumes.specs.Volume.{run_date, placed};
 ghost use Rattle.sums.specs.Sums.{total_from};
 
 use error::{Refusal, Stopped};
 use metadata::ChemstationMetadata;
 use states::Stored;
-use streams::Mode;
+use streams::{Mode, State};
 use volumes::Placed;
 
-// ---- answers as numbers
-// Kept: (a) C reads numbers: include/chemstation.h names them.
+// ---- answers
 
-const MORE_BYTES: u8 = 101;
+// What a call answers.
+#[derive(Clone, Copy, Debug, PartialEq, Eq)]
+enum Answer {
+    Stopped(Stopped),
+    // the columns are full
+    Full,
+    // a header was opened, a text or all eight fetched, a column added up, or a run date read
+    Given,
+    NoDate,
+    InWindow,
+    OutOfWindow,
+}
 
-const FULL: u8 = 102;
+// What closes a filling.
+impl From<Result<(), Stopped>> for Answer {
+    ghost from_gives = { λ c a. answer_number a ≡ closing_number (closing_of c) };
 
-// a header was opened, a text or all eight fetched, a column added up, or a run date read
-const GIVEN: u8 = 103;
-
-const NO_DATE: u8 = 104;
-
-const IN_WINDOW: u8 = 105;
-
-const OUT_OF_WINDOW: u8 = 106;
-
-// The number of an answer without an outcome.
-// Kept: (d) no From: it would stand in the crate of `Stopped`, which does not know the numbers for C.
-fn stop_number(z: Stopped) -> u8
-    ensures { result ≡ stop_number (stop_of z) }
-{
-    match z {
-        Stopped::Refused(r) => u8::from(r),
-        Stopped::Finished => 0,
-        Stopped::MoreBytes => MORE_BYTES,
+    fn from(c: Result<(), Stopped>) -> Answer {
+        match c {
+            Ok(()) => Answer::Full,
+            Err(z) => Answer::Stopped(z),
+        }
     }
 }
 
-// The number of what closes a filling.
-fn closing_number(c: Result<(), Stopped>) -> u8
-    ensures { result ≡ closing_number (closing_of c) }
-{
-    match c {
-        Ok(()) => FULL,
-        Err(z) => stop_number(z),
+// The number that C reads.
+impl From<Answer> for u8 {
+    ghost from_gives = { λ a n. n ≡ answer_number a };
+
+    fn from(a: Answer) -> u8 {
+        match a {
+            Answer::Stopped(Stopped::Finished) => 0,
+            Answer::Stopped(Stopped::Refused(r)) => u8::from(r),
+            Answer::Stopped(Stopped::MoreBytes) => 101,
+            Answer::Full => 102,
+            Answer::Given => 103,
+            Answer::NoDate => 104,
+            Answer::InWindow => 105,
+            Answer::OutOfWindow => 106,
+        }
     }
 }
 
 // ---- Open
 
 // The whole numbers of a description.
+// Kept: (d) `as`: std has no From of a u32 for usize, and `try_from` could fail.
 fn header_of(d: ChemstationMetadata) -> [usize; 5]
     ensures { result ≡ header_of d }
 {
     let edition = d.edition as usize;
-    let sequence = d.sequence as usize;
-    let vial = d.vial as usize;
-    let replicate = d.replicate as usize;
+    let sequence = usize::from(d.sequence);
+    let vial = usize::from(d.vial);
+    let replicate = usize::from(d.replicate);
     [edition, d.size, sequence, vial, replicate]
 }
 
@@ -82,47 +91,66 @@ fn corrections_of(d: ChemstationMetadata) -> [f64; 4]
     ]
 }
 
-// Kept: (a) C lends the arrays one by one.
-// Opens a run by a reading: what its header says, and the state before the first record. Any other answer writes nothing.
-fn open_into(
-    mode: Mode,
-    kind: u8,
-    s: &[u8],
-    last: bool,
-    header: &mut [usize; 5],
-    corrections: &mut [f64; 4],
-    text_starts: &mut [usize; 8],
-    text_lengths: &mut [usize; 8],
-    numbers: &mut [f64; 6],
-    counts: &mut [usize; 4],
-    stored_time: &mut u32,
-    reading: &mut u8,
-) -> u8
-    ensures { OpensInto mode kind (read last (open_by mode kind) s.now) result (lent_run header corrections text_starts text_lengths numbers counts stored_time reading) }
-{
-    match modes::open_by(mode, kind, s, last) {
-        Err(z) => stop_number(z),
-        Ok(run) => {
-            let d = run.metadata;
-            *header = header_of(d);
-            *corrections = corrections_of(d);
-            let starts = d.text_starts;
-            *text_starts = starts;
-            let lengths = d.text_lengths;
-            *text_lengths = lengths;
-            let stored = Stored::from(run.state);
-            let doubles = stored.numbers;
-            *numbers = doubles;
-            let wholes = stored.counts;
-            *counts = wholes;
-            *stored_time = stored.stored_time;
-            *reading = stored.reading;
-            GIVEN
+// The memory that C lends for a run: what its header says, and the state before the first record.
+#[derive(Drop)]
+struct LentRun<'a> {
+    header: &'a mut [usize; 5],
+    corrections: &'a mut [f64; 4],
+    text_starts: &'a mut [usize; 8],
+    text_lengths: &'a mut [usize; 8],
+    numbers: &'a mut [f64; 6],
+    counts: &'a mut [usize; 4],
+    stored_time: &'a mut u32,
+    reading: &'a mut u8,
+}
+
+impl LentRun<'_> {
+    // What a header says.
+    fn put_header(&mut self, d: ChemstationMetadata)
+        ensures same { AreTheSame self.old self.new }
+        ensures held { held self.new ≡ with_header d (held self.old) }
+    {
+        *self.header = header_of(d);
+        *self.corrections = corrections_of(d);
+        // Kept: (c), here and below: straight out of the struct the borrow checker does not cover an array.
+        let starts = d.text_starts;
+        *self.text_starts = starts;
+        let lengths = d.text_lengths;
+        *self.text_lengths = lengths;
+    }
+
+    // A state, with its reading.
+    fn put_state(&mut self, st: State)
+        ensures same { AreTheSame self.old self.new }
+        ensures held { held self.new ≡ with_state st (held self.old) }
+    {
+        let stored = Stored::from(st);
+        let doubles = stored.numbers;
+        *self.numbers = doubles;
+        let wholes = stored.counts;
+        *self.counts = wholes;
+        *self.stored_time = stored.stored_time;
+        *self.reading = stored.reading;
+    }
+
+    // Opens a run by a reading. Any other answer writes nothing.
+    fn open(&mut self, mode: Mode, kind: u8, s: &[u8], last: bool) -> u8
+        ensures same { AreTheSame self.old self.new }
+        ensures opens { OpensInto mode kind (read last (open_by mode kind) s.now) result (lent self) }
+    {
+        match modes::open_by(mode, kind, s, last) {
+            Err(z) => Answer::Stopped(z).into(),
+            Ok(run) => {
+                self.put_header(run.metadata);
+                self.put_state(run.state);
+                Answer::Given.into()
+            }
         }
     }
 }
 
 // Opens a run of any kind, to be read as the original reads it.
+// Kept: (a), here and below: C lends the memory one by one, and has an export for each reading.
 #[unsafe(no_mangle)]
 pub extern "C" fn chemstation_open(
     kind: u8,
@@ -139,11 +167,7 @@ pub extern "C" fn chemstation_open(
 ) -> u8
     ensures { OpensInto Mode.Plain kind (read last (open_by Mode.Plain kind) s.now) result (lent_run header corrections text_starts text_lengths numbers counts stored_time reading) }
 {
-    open_into(
-        Mode::Plain,
-        kind,
-        s,
-        last,
+    let mut run = LentRun {
         header,
         corrections,
         text_starts,
@@ -152,7 +176,8 @@ pub extern "C" fn chemstation_open(
         counts,
         stored_time,
         reading,
-    )
+    };
+    run.open(Mode::Plain, kind, s, last)
 }
 
 // Opens a DAD or UV run for the atlas reading.
@@ -172,11 +197,7 @@ pub extern "C" fn chemstation_open_atlas(
 ) -> u8
     ensures { OpensInto Mode.Atlas kind (read last (open_by Mode.Atlas kind) s.now) result (lent_run header corrections text_starts text_lengths numbers counts stored_time reading) }
 {
-    open_into(
-        Mode::Atlas,
-        kind,
-        s,
-        last,
+    let mut run = LentRun {
         header,
         corrections,
         text_starts,
@@ -185,12 +206,14 @@ pub extern "C" fn chemstation_open_atlas(
         counts,
         stored_time,
         reading,
-    )
+    };
+    run.open(Mode::Atlas, kind, s, last)
 }
 
 // ---- Fetch a text
 
 // A text by its number, from the bytes of a whole file. A refusal writes nothing of it; the units replaced, 0 on a refusal, are written always.
+#[tactic(auto, using(crate::proofs::Calls::fetches_into))]
 #[unsafe(no_mangle)]
 pub extern "C" fn chemstation_text(
     kind: u8,
@@ -206,18 +229,19 @@ pub extern "C" fn chemstation_text(
     match fetch::fetch_text(kind, number, s, out) {
         Err(r) => {
             *replaced = 0;
-            u8::from(r)
+            r.into()
         }
         Ok(text) => {
             *replaced = text.replaced;
             *length = text.bytes;
-            GIVEN
+            Answer::Given.into()
         }
     }
 }
 
 // All eight texts, one behind the other in one buffer, from the bytes of a whole file. A refusal writes nothing of them; the units replaced in
 // each, 0s on a refusal, are written always.
+#[tactic(auto, using(crate::proofs::Calls::texts_into))]
 #[unsafe(no_mangle)]
 pub extern "C" fn chemstation_texts(
     kind: u8,
@@ -233,12 +257,12 @@ pub extern "C" fn chemstation_texts(
     match texts::fetch_texts(kind, s, out, starts, lengths) {
         Err(r) => {
             *replaced = [0; 8];
-            u8::from(r)
+            r.into()
         }
         Ok(texts) => {
             let each = texts.replaced;
             *replaced = each;
-            GIVEN
+            Answer::Given.into()
         }
     }
 }
@@ -247,6 +271,7 @@ pub extern "C" fn chemstation_texts(
 
 // Records until the columns are full or another answer comes; the state behind the last is stored back, its reading stays. Numbers that
 // hold no state are refused.
+#[tactic(auto, using(crate::proofs::Calls::fills_nothing))]
 #[unsafe(no_mangle)]
 pub extern "C" fn chemstation_fill(
     numbers: &mut [f64; 6],
@@ -285,12 +310,13 @@ pub extern "C" fn chemstation_fill(
     *counts = n;
     *stored_time = after.stored_time;
     *given = [f.count, f.consumed];
-    closing_number(f.closing)
+    Answer::from(f.closing).into()
 }
 
 // ---- the sum of a column
 
 // Adds the values of a column to a sum, one behind the other. A refusal writes nothing.
+#[tactic(auto, using(crate::proofs::Calls::sums_into))]
 #[unsafe(no_mangle)]
 pub extern "C" fn chemstation_sum(values: &[f64], sum: &mut i64) -> u8
     ensures { SumsInto (total_from (Some (Ok sum.old)) values.now) result sum.old sum.new }
@@ -299,10 +325,10 @@ pub extern "C" fn chemstation_sum(values: &[f64], sum: &mut i64) -> u8
     match tally::total_from(Some(Ok(before)), values) {
         Some(Ok(n)) => {
             *sum = n;
-            GIVEN
+            Answer::Given.into()
         }
-        None => GIVEN,
-        Some(Err(r)) => u8::from(r),
+        None => Answer::Given.into(),
+        Some(Err(r)) => r.into(),
     }
 }
 
@@ -314,11 +340,11 @@ pub extern "C" fn chemstation_date(kind: u8, s: &[u8], instant: &mut u32) -> u8
     ensures { DatesInto (run_date kind s.now) result instant.old instant.new }
 {
     match volumes::run_date(kind, s) {
-        Err(r) => u8::from(r),
-        Ok(None) => NO_DATE,
+        Err(r) => r.into(),
+        Ok(None) => Answer::NoDate.into(),
         Ok(Some(i)) => {
             *instant = i;
-            GIVEN
+            Answer::Given.into()
         }
     }
 }
@@ -329,9 +355,9 @@ pub extern "C" fn chemstation_window(kind: u8, s: &[u8], start: u32, end: u32) -
     ensures { result ≡ place_number (placed start end kind s.now) }
 {
     match volumes::in_window(start, end, kind, s) {
-        Err(r) => u8::from(r),
-        Ok(Placed::Undated) => NO_DATE,
-        Ok(Placed::Inside) => IN_WINDOW,
-        Ok(Placed::Outside) => OUT_OF_WINDOW,
+        Err(r) => r.into(),
+        Ok(Placed::Undated) => Answer::NoDate.into(),
+        Ok(Placed::Inside) => Answer::InWindow.into(),
+        Ok(Placed::Outside) => Answer::OutOfWindow.into(),
     }
 }

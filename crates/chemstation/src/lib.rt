@@ -17,6 +17,9 @@ use streams::{Given, State};
 use uv::uv_next;
 
 // The next record of DAD and UV, by the reading that the state is of; other kinds have none here.
+// Kept: a second match on the kind (b): with one match, in next_record, dad_next and uv_next are called at two places each, and a record of
+// the log took 332 instructions for 230 (DAD), 240 for 191 (FID).
+#[tactic(auto, using(crate::proofs::Spectrum::others_end))]
 fn spectrum_next(st: State, s: &[u8], last: bool) -> Result<Given, Stopped>
     ensures { answer_of result ≡ read last (rule_by st (spectrum_fields st)) s.now }
 {
@@ -28,10 +31,11 @@ fn spectrum_next(st: State, s: &[u8], last: bool) -> Result<Given, Stopped>
     }
 }
 
-// Kept: a function of each kind rather than a trait of the states (d): an impl stands in the crate of its trait or of its type, and both
-// would be `streams`, below the kinds.
 // The next record of any kind, by the reading that the state is of. A refusal, 'finished' and 'more bytes' consume nothing and leave the
 // state as it was.
+// Kept: a match on the kind, and a function of each, rather than a trait of the states (d): an impl stands in the crate of its trait or of
+// its type, and both would be `streams`, below the kinds.
+#[tactic(auto, using(crate::proofs::Spectrum::of_spectra))]
 pub fn next_record(st: State, s: &[u8], last: bool) -> Result<Given, Stopped>
     ensures { answer_of result ≡ read last (rule st) s.now }
 {

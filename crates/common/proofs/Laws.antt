@@ -14,6 +14,7 @@ use lib.Seq.{take-add, drop-drop}
 use Rattle.common.specs.Bytes.{le, be, twos, part}
 
 -- the law: the bytes a, and then b
+-- Kept: (a) the law over width and order that docs/COVERAGE.md names.
 pub le_join : (a b : List ℕ) → le (a ++ b) ≡ le b * 256 ^ length a + le a
 le_join [] b = omega arith
 le_join (x ∷ a) b =

@@ -28,6 +28,7 @@ abbrev pub part : ℕ → ℕ → List ℕ → List ℕ
 part at w s = take w (drop at s)
 
 -- every element is a byte
+-- Kept: (d) a recursion beside std's `All`, which is by index: the proofs of utf16, letters, digits and foot take bytes off one by one.
 unfoldable pub AreBytes : List ℕ → Type 0
 AreBytes [] = Unit
 AreBytes (b ∷ bs) = (b < 256) × AreBytes bs

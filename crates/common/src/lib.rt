@@ -13,7 +13,8 @@ pub enum Endian {
 }
 
 // A number of a fixed width in bytes.
-// Kept: (a) a slice and a position beside it: by the project's rule a reader stands on functions over a slice and a number.
+// Kept: (d) a slice and a position beside it, as in `u32::be_at(s, 248)`: most positions are numbers of the format, and a struct of the two
+// would be made at each read.
 pub trait Number: Sized {
     // how many bytes it has
     ghost width: { ℕ };

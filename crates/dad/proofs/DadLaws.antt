@@ -5,6 +5,7 @@ use mathlib.Core.List.{List, [], ◌∷◌}
 use Prim.Native.Nat.{ℕ, ◌-◌, ◌≤◌, ◌<◌}
 use native.Mathlib.Omega.{arith}
 use lib.Dec.{eqb}
+use lib.Ieee.{binary64, of_int, of_bits}
 use lib.ListN.{length}
 use borrow.Author.Tests.{eq-eqb, ne_eqb}
 use Rattle.rules.specs.Rule.{Rule, ends, finished, Read, stops, read, read_at, map_read, ◌>>=◌, ◌>>◌, skip}
@@ -15,12 +16,13 @@ use Rattle.floats.specs.Doubles.{double}
 use Rattle.floats.specs.Wholes.{doubles, flat}
 use Rattle.streams.specs.Changes.{clears}
 use Rattle.streams.specs.Told.{Told}
-use Rattle.streams.specs.Next.{stepped}
+use Rattle.streams.specs.Next.{stepped, rule_by}
 use Rattle.streams.specs.declared.State.TheVariants.{Dad}
 use Rattle.streams.specs.declared.ChemstationDadState.{ChemstationDadState}
 use Rattle.streams.proofs.PointLaws.{point_cleared}
+use Rattle.streams.proofs.ScanningLaws.{scans_done, scan_new, scan_within}
 use Rattle.streams.proofs.Steps.{answer}
-use Rattle.dad.specs.Dad.{dad_point, dad_begun, dad_scan}
+use Rattle.dad.specs.Dad.{dad_point, dad_begun, dad_scan, dad_onward, dad_scanning, dad_rule}
 
 module _ (st : ChemstationDadState) (last : Bool) (s : List ℕ) where
   abbrev ReadsScan : Read Told → Type 0
@@ -74,3 +76,32 @@ module _ (st : ChemstationDadState) (last : Bool) (s : List ℕ) where
             answer (Dad st) (read_at last (dad_scan st.n_scans_left) 0 s) ≡ map_read (stepped (flat doubles (double 0))) (read_at last (dad_point (dad_begun st.n_scans_left (record { 0 = bytes }) (le (part 4 4 s)) (le (part 8 2 s)) (le (part 12 2 s))) []) 22 s)
         unfolding dad_point
         dad_first n = heads ∙ rw (ne_eqb bytes 0 n) (sym (point_cleared le last 22 s st.cur_intensity _))
+
+-- ---- constants, by their bit patterns
+
+pub zero_is : of_bits binary64 0 ≡ double 0
+unfolding of_int of_bits
+zero_is = refl
+
+pub twenty_is : of_bits binary64 4626322717216342016 ≡ double 20
+unfolding of_int of_bits
+twenty_is = refl
+
+pub two_thousand_is : of_bits binary64 4656510908468559872 ≡ double 2000
+unfolding of_int of_bits
+two_thousand_is = refl
+
+-- ---- the next record, by the counts that are due
+
+module _ (st : ChemstationDadState) (last : Bool) (s : List ℕ) where
+  abbrev NextReads : Rule Told → Type 0
+  NextReads r = read last (rule_by (Dad st) (dad_rule st)) s ≡ answer (Dad st) (read_at last r 0 s)
+
+  pub dad_ends : st.n_scans_left.0 ≡ 0 → read last (rule_by (Dad st) (dad_rule st)) s ≡ stops finished
+  dad_ends e = scans_done (Dad st) (dad_scanning st) last s (eq-eqb _ _ e)
+
+  pub dad_new : (st.n_scans_left.0 ≡ 0 → ⊥) → st.n_bytes_left.0 ≡ 0 → NextReads (dad_scan st.n_scans_left)
+  dad_new n e = scan_new (Dad st) (dad_scanning st) last s (ne_eqb _ _ n) e
+
+  pub dad_within : (st.n_scans_left.0 ≡ 0 → ⊥) → (st.n_bytes_left.0 ≡ 0 → ⊥) → NextReads (dad_point (dad_onward st) [])
+  dad_within n e = scan_within (Dad st) (dad_scanning st) last s (ne_eqb _ _ n) e

@@ -1,18 +1,18 @@
 -- The values are in the ranges of their items, and say a moment of the calendar's years.
-use mathlib.Core.Path.{◌≡◌, refl}
+use mathlib.Core.Path.{◌≡◌}
 use mathlib.Core.List.{List, [], ◌∷◌}
-use Prim.Native.Nat.{ℕ, zero, suc, ◌-◌, ◌≤◌, ◌<◌}
+use Prim.Native.Nat.{ℕ, zero, suc, ◌≤◌, ◌<◌}
 use native.Mathlib.Omega.{arith}
 use lib.ListN.{length, get_or}
 use borrow.Table.Steps.{cases as by}
 use lib.Dec.{leb}
 use Rattle.calendar.specs.Calendar.{Printed}
 use Rattle.items.specs.declared.Item.{Item}
-use Rattle.std.proofs.Common.{Some, replicate, ◌++◌}
+use Rattle.std.proofs.Common.{Some}
 use borrow.Author.Tests.{leb-true, leb-false}
 use Rattle.dates.specs.declared.Form.{Form}
 use Rattle.dates.specs.declared.Form.TheVariants.{First, Second, Third, Fourth}
-use Rattle.dates.specs.Dates.{first_form, fourth_form, items_of, year_of, half_day_moment, moment_of, values_of, padded, lows, highs, InRanges, InSpan}
+use Rattle.dates.specs.Dates.{first_form, fourth_form, items_of, year_of, half_day_moment, moment_of, values_of, lows, highs, InRanges, InSpan}
 use Rattle.dates.specs.Grammar.{Written, none, next}
 use Rattle.items.specs.Writing.{sign, two, one, or_two, month, am, pm, plus, minus}
 use Rattle.dates.proofs.Sound.{written}
@@ -61,27 +61,20 @@ in_span Fourth v r =
     let m : (k : ℕ) → k < 7 → get_or v k 0 ≤ get_or (highs fourth_form) k 0 = λ k h. (r.each k h).1 in
     record { year = printed_year (get_or v 2 0) (m 2 (omega arith)); month = m 0 (omega arith); hour = omega (arith, m 6 (omega arith)); minute = m 4 (omega arith); second = m 5 (omega arith) }
 
--- ---- zeros behind the values change nothing
+-- ---- the values that a text has
 
-get_or-zeros : (n k : ℕ) → get_or (replicate {A = ℕ} n 0) k 0 ≡ 0
-get_or-zeros zero k = refl
-get_or-zeros (suc n) zero = refl
-get_or-zeros (suc n) (suc k) = get_or-zeros n k
+pub of_ranges : (is : List Item) (t vs : List ℕ) → values_of is t ≡ Some vs → InRanges is vs
+of_ranges is t vs e = written_ranges (written is t vs e)
 
-pub get_or-padded : (vs : List ℕ) (k : ℕ) → get_or (padded vs) k 0 ≡ get_or vs k 0
-get_or-padded vs k = of vs (16 - length vs) k
+pub all_there : (is : List Item) (t vs : List ℕ) → values_of is t ≡ Some vs → length (lows is) ≤ length vs
+all_there is t vs e = size (between (written is t vs e))
   where
-    of : (us : List ℕ) (n j : ℕ) → get_or (us ++ replicate n 0) j 0 ≡ get_or us j 0
-    of [] n j = get_or-zeros n j
-    of (u ∷ us) n zero = refl
-    of (u ∷ us) n (suc j) = of us n j
+    size : {ls hs us : List ℕ} → Between ls hs us → length ls ≤ length us
+    size nil = omega arith
+    size (also p q b) = omega (arith, size b)
 
-pub padded_ranges : (is : List Item) (t vs : List ℕ) → values_of is t ≡ Some vs → InRanges is (padded vs)
-padded_ranges is t vs e = let r = written_ranges (written is t vs e) in record { each = λ k h. rw (get_or-padded vs k) (r.each k h) }
-
-pub padded_moment : (f : Form) (vs : List ℕ) → moment_of f (padded vs) ≡ moment_of f vs
-unfolding moment_of
-padded_moment First vs = simp (get_or-padded vs)
-padded_moment Second vs = simp (get_or-padded vs)
-padded_moment Third vs = simp (get_or-padded vs)
-padded_moment Fourth vs = simp (get_or-padded vs)
+pub five : (f : Form) → 5 ≤ length (lows (items_of f))
+five First = omega arith
+five Second = omega arith
+five Third = omega arith
+five Fourth = omega arith

@@ -5,21 +5,21 @@ use Prim.Native.Nat.{ℕ, suc, ◌+◌, ◌-◌, ◌≤◌, ◌<◌}
 use native.Mathlib.Numerals.{add-one}
 use native.Mathlib.Omega.{arith}
 use lib.Dec.{eqb}
-use lib.ListN.{length, take, drop, set, get_or, length-take, length-drop, length-set}
-use lib.Seq.{drop-cons, drop-drop, drop-length, drop-set-lt, length-take-le, take-suc-set, take_all}
-use borrow.Author.Tests.{eqb-true, eqb-false, eq-eqb, ne_eqb}
+use lib.ListN.{length, take, drop, get_or, length-drop, length-append}
+use lib.Seq.{drop-cons, drop-length, take_all}
 use borrow.Table.Steps.{cases as by}
+use Rattle.arrayvec.specs.declared.array_vec.ArrayVec.{ArrayVec}
 use Rattle.items.specs.declared.Item.{Item}
 use Rattle.items.specs.declared.Item.TheVariants.{Sign}
 use Rattle.dates.specs.declared.Form.{Form}
 use Rattle.dates.specs.declared.Form.TheVariants.{First, Second, Third, Fourth}
-use Rattle.std.proofs.Common.{Option, Some, None, replicate, take-append-drop}
+use Rattle.std.proofs.Common.{Option, Some, None}
 use Rattle.std.specs.Bool.{then_some}
 use Rattle.std.specs.Option.{option_map}
 use Rattle.items.specs.declared.Found.{Found}
 use Rattle.items.specs.Items.{stands_at}
 use Rattle.items.proofs.Sound.{ends_within}
-use Rattle.dates.specs.Dates.{items_of, Values, before, with_value, onward, values_of, padded}
+use Rattle.dates.specs.Dates.{items_of, Values, before, onward, values_of}
 
 -- values before others
 abbrev before_all : List ℕ → Values → Values
@@ -38,88 +38,59 @@ before_end : (vs : List ℕ) → before_all vs (Some []) ≡ Some vs
 before_end [] = refl
 before_end (v ∷ vs) = ap (before v) (before_end vs)
 
-onward_same : (f : Option Found) (g h : ℕ → Values) → ((m : ℕ) → g m ≡ h m) → onward f g ≡ onward f h
-onward_same None g h e = refl
-onward_same (Some f) g h e = ap (with_value f.value) (e f.width)
-
--- behind k items, of which n gave values, with the text read as far as `at`
-pub record Walked (is : List Item) (t values : List ℕ) (n at k : ℕ) : Type 0 where
-  pub read : values_of is t ≡ before_all (take n values) (values_of (drop k is) (drop at t))
-  pub few : n ≤ k
+-- behind k items, which gave these values, with the rest of the text
+pub record Walked (is : List Item) (t values rest : List ℕ) (k : ℕ) : Type 0 where
+  pub read : values_of is t ≡ before_all values (values_of (drop k is) rest)
+  pub few : length values ≤ k
   pub items : k ≤ length is
-  pub within : at ≤ length t
-  pub room : length values ≡ 16
-  pub zeros : drop n values ≡ replicate (16 - n) 0
 
-pub begun : (is : List Item) (t : List ℕ) → Walked is t (replicate 16 0) 0 0 0
-begun is t = record { read = refl; few = omega arith; items = omega arith; within = omega arith; room = refl; zeros = refl }
+pub begun : (is : List Item) (t : List ℕ) → Walked is t [] t 0
+begun is t = record { read = refl; few = omega arith; items = omega arith }
 
-module _ (is : List Item) (t values : List ℕ) (n at k : ℕ) (w : Walked is t values n at k) (h : k < length is) where
+module _ (is : List Item) (t values rest : List ℕ) (k : ℕ) (w : Walked is t values rest k) (h : k < length is) where
   abbrev item : Item
   item = get_or is k (Sign 0)
 
-  tail_length : length (take (length t - at) (drop at t)) ≡ length t - at
-  tail_length = simp (length-take, length-drop) (omega arith)
-
-  -- the item at hand, in the rest of the text
-  next_item : (f : Option Found) → f ≡ stands_at item (take (length t - at) (drop at t)) → values_of is t ≡ before_all (take n values) (onward f (λ m. values_of (drop (suc k) is) (drop (at + m) t)))
+  -- the item at hand
+  next_item : (f : Option Found) → f ≡ stands_at item rest → values_of is t ≡ before_all values (onward f (λ m. values_of (drop (suc k) is) (drop m rest)))
   unfolding values_of
   next_item f e =
-      let l : take (length t - at) (drop at t) ≡ drop at t = take_all (length t - at) (drop at t) (simp length-drop (omega arith)) in
-      let g : f ≡ stands_at item (drop at t) = rw l at e in
-      let rest : ℕ → Values = λ m. values_of (drop (suc k) is) (drop m (drop at t)) in
-      let onto : values_of (drop k is) (drop at t) ≡ onward (stands_at item (drop at t)) rest = rw (drop-cons is k (Sign 0) h) in
-      w.read ∙ ap (before_all (take n values)) (onto ∙ ap (λ (x : Option Found). onward x rest) (sym g) ∙ onward_same f rest _ (λ m. ap (values_of (drop (suc k) is)) (drop-drop m at t)))
+      let onto : values_of (drop k is) rest ≡ onward (stands_at item rest) (λ m. values_of (drop (suc k) is) (drop m rest)) = rw (drop-cons is k (Sign 0) h) in
+      w.read ∙ ap (before_all values) (rw (← e) at onto)
 
-  pub not_found : None ≡ stands_at item (take (length t - at) (drop at t)) → values_of is t ≡ None
-  not_found e = next_item None e ∙ before_nothing (take n values)
+  pub not_found : None ≡ stands_at item rest → values_of is t ≡ None
+  not_found e = next_item None e ∙ before_nothing values
 
-  module _ (f : Found) (e : Some f ≡ stands_at item (take (length t - at) (drop at t))) where
-    pub ends : at + f.width ≤ length t
-    ends = omega (arith, ends_within item (take (length t - at) (drop at t)) f e, tail_length)
+  module _ (f : Found) (e : Some f ≡ stands_at item rest) where
+    pub ends : f.width ≤ length rest
+    ends = ends_within item rest f e
 
-    pub on_passed : f.value ≡ None → Walked is t values n (at + f.width) (k + 1)
-    on_passed p =
+    left : take (length rest - f.width) (drop f.width rest) ≡ drop f.width rest
+    left = take_all (length rest - f.width) (drop f.width rest) (simp length-drop (omega arith))
+
+    pub on_passed : f.value ≡ None → Walked is t values (take (length rest - f.width) (drop f.width rest)) (k + 1)
+    on_passed p = record { read = rw (add-one k, left) (rw p at (next_item (Some f) e)); few = omega (arith, w.few); items = omega arith }
+
+    pub on_value : (v : ℕ) → f.value ≡ Some v → Walked is t (values ++ (v ∷ [])) (take (length rest - f.width) (drop f.width rest)) (k + 1)
+    on_value v p =
         record {
-          read = rw (add-one k) (rw p at (next_item (Some f) e));
-          few = omega (arith, w.few);
+          read = rw (add-one k, left) (rw p at (next_item (Some f) e) ∙ sym (one_more values v (values_of (drop (suc k) is) (drop f.width rest))));
+          few = omega (arith, w.few, length-append values (v ∷ []));
           items = omega arith;
-          within = ends;
-          room = w.room;
-          zeros = w.zeros;
         }
-
-    pub on_value : (v : ℕ) → f.value ≡ Some v → n < 16 → Walked is t (set values n v) (n + 1) (at + f.width) (k + 1)
-    on_value v p r =
-        record {
-          read = rw (add-one k, add-one n, take-suc-set values n v (omega (arith, w.room))) (rw p at (next_item (Some f) e) ∙ sym (one_more (take n values) v (values_of (drop (suc k) is) (drop (at + f.width) t))));
-          few = omega (arith, w.few);
-          items = omega arith;
-          within = ends;
-          room = length-set values n v ∙ w.room;
-          zeros = drop-set-lt (n + 1) values n v (omega arith) ∙ sym (drop-drop 1 n values) ∙ ap (drop 1) w.zeros ∙ fewer (16 - n) (16 - (n + 1)) (omega arith);
-        }
-      where
-        fewer : (i j : ℕ) → i ≡ suc j → drop 1 (replicate {A = ℕ} i 0) ≡ replicate j 0
-        fewer i j q = rw q
 
 -- behind the last item the text ends, or it does not have the form
-pub ended : (is : List Item) (t values : List ℕ) (n at k : ℕ) → Walked is t values n at k → length is ≤ k → n ≤ 16 → then_some (eqb at (length t)) values ≡ option_map padded (values_of is t)
+pub ended : (is : List Item) (t : List ℕ) (values : ArrayVec ℕ 15 (Unit {0})) (rest : List ℕ) (k : ℕ) → Walked is t values.items rest k → length is ≤ k → option_map (λ (v : ArrayVec ℕ 15 (Unit {0})). v.items) (then_some (eqb (length rest) 0) values) ≡ values_of is t
 unfolding values_of
-ended is t values n at k w h few =
-    let e : k ≡ length is = omega (arith, w.items) in
-    let d : drop k is ≡ [] = ap (λ (x : ℕ). drop x is) e ∙ drop-length is in
-    let r : values_of is t ≡ before_all (take n values) (values_of [] (drop at t)) = rw d at w.read in
-    let size : length (take n values) ≡ n = length-take-le n values (omega (arith, w.room)) in
-    let all : padded (take n values) ≡ values = rw (size, ← w.zeros) (take-append-drop n values) in
-    by (eqb at (length t))
+ended is t values rest k w h =
+    let d : drop k is ≡ [] = ap (λ (x : ℕ). drop x is) (omega (arith, w.items)) ∙ drop-length is in
+    let r : values_of is t ≡ before_all values.items (values_of [] rest) = rw d at w.read in
+    by (eqb (length rest) 0)
     (λ q.
-    let z : length (drop at t) ≡ 0 = simp length-drop (omega (arith, eqb-true at (length t) q)) in
-    let g : values_of is t ≡ Some (take n values) = r ∙ rw (eq-eqb (length (drop at t)) 0 z) (before_end (take n values)) in
-    rw (q, g, all))
+    let g : values_of is t ≡ Some values.items = r ∙ rw q (before_end values.items) in
+    rw (q, g))
     (λ q.
-    let z : length (drop at t) ≡ 0 → ⊥ = λ y. eqb-false at (length t) q (omega (arith, sym (length-drop at t) ∙ y, w.within)) in
-    let g : values_of is t ≡ None = r ∙ rw (ne_eqb (length (drop at t)) 0 z) (before_nothing (take n values)) in
+    let g : values_of is t ≡ None = r ∙ rw q (before_nothing values.items) in
     rw (q, g))
 
 pub most_items : (f : Form) → length (items_of f) ≤ 15

@@ -1,6 +1,6 @@
 -- Run dates (request 6): 'Read the run date in four forms'.
 use Prim.Native.Char.{Char, code}
-use Rattle.std.specs.Prelude.{cond, List, [], ◌∷◌, ◌++◌, Option, None, Some, ℕ, ◌+◌, ◌-◌, ◌%◌, ◌≤◌, ◌<◌, leb, eqb, length, drop, get_or, replicate}
+use Rattle.std.specs.Prelude.{cond, List, [], ◌∷◌, ◌++◌, Option, None, Some, ℕ, ◌+◌, ◌%◌, ◌≤◌, ◌<◌, leb, eqb, length, drop, get_or}
 use Rattle.calendar.specs.declared.Moment.{Moment}
 use Rattle.calendar.specs.Calendar.{is_day, instant_of, Printed}
 use Rattle.items.specs.declared.Item.{Item}
@@ -154,7 +154,3 @@ pub record InSpan (x : Moment) : Type 0 where
   pub hour : x.hour ≤ 23
   pub minute : x.minute ≤ 59
   pub second : x.second ≤ 59
-
--- values in room for sixteen, with zeros behind them
-abbrev pub padded : List ℕ → List ℕ
-padded vs = vs ++ replicate (16 - length vs) 0

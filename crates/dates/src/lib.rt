@@ -4,8 +4,9 @@
 ghost use Rattle.std.specs.Prelude.{◌≡◌, ◌+◌, ◌≤◌, ◌<◌, length};
 ghost use Rattle.std.specs.Option.{option_map};
 ghost use Rattle.dates.specs.Grammar.{FourForms};
-ghost use Rattle.dates.specs.Dates.{items_of, year_of, hour_of, moment_of, values_of, padded, date_by, date_of, form_of, InRanges};
+ghost use Rattle.dates.specs.Dates.{items_of, year_of, hour_of, moment_of, values_of, lows, date_by, date_of, form_of, InRanges};
 
+use arrayvec::ArrayVec;
 use calendar::Moment;
 use items::{Item, item_at};
 
@@ -83,24 +84,21 @@ fn items_of(form: Form) -> &'static [Item]
 
 // ---- a form
 
-// The values of the items of a form, one behind the other, if the text has that form.
-#[tactic(auto, using(crate::proofs::Walk::begun, crate::proofs::Walk::not_found, crate::proofs::Walk::ends, crate::proofs::Walk::ended, crate::proofs::Walk::most_items))]
-fn values_of(form: Form, t: &[u8]) -> Option<[u8; 16]>
-    ensures { result ≡ option_map padded (values_of (items_of form) t.now) }
+// The values of the items of a form, one behind the other, if the text has that form. No form has more than 15 items.
+#[tactic(auto, using(crate::proofs::Walk::begun, crate::proofs::Walk::not_found, crate::proofs::Walk::ends, crate::proofs::Walk::on_passed, crate::proofs::Walk::on_value, crate::proofs::Walk::ended, crate::proofs::Walk::most_items))]
+fn values_of(form: Form, t: &[u8]) -> Option<ArrayVec<u8, 15>>
+    ensures { option_map (λ v. v.items) result ≡ values_of (items_of form) t.now }
 {
-    // Kept: the programs and the C library use no heap, so the n values lie in an array of a fixed size, with zeros behind them.
-    let mut values = [0u8; 16];
-    let mut n: usize = 0;
-    let mut at: usize = 0;
+    let mut values = ArrayVec::new();
+    let mut rest = t;
     for item in items_of(form) {
-        let found = item_at(*item, &t[at..])?;
-        at += found.width;
+        let found = item_at(*item, rest)?;
+        rest = &rest[found.width..];
         if let Some(v) = found.value {
-            values[n] = v;
-            n += 1;
+            values.push(v);
         }
     }
-    (at == t.len()).then_some(values)
+    rest.is_empty().then_some(values)
 }
 
 // ---- the date
@@ -123,10 +121,11 @@ fn hour_of(h: u8, half: u8) -> u8
 }
 
 // What the values of a form say.
-#[tactic(auto, unfolding(crate::specs::Dates::moment_of))]
-fn moment_of(form: Form, v: [u8; 16]) -> Moment
-    requires { InRanges (items_of form) v }
-    ensures { result ≡ moment_of form v }
+#[tactic(auto, using(crate::proofs::Ranges::five), unfolding(crate::specs::Dates::moment_of))]
+fn moment_of(form: Form, v: &[u8]) -> Moment
+    requires ranges { InRanges (items_of form) v.now }
+    requires all { length (lows (items_of form)) ≤ length v.now }
+    ensures { result ≡ moment_of form v.now }
 {
     let by_the_minute = Moment {
         year: year_of(v[2]),
@@ -156,11 +155,11 @@ fn moment_of(form: Form, v: [u8; 16]) -> Moment
 }
 
 // The date of a text that is of a form, if its month has such a day.
-#[tactic(auto, using(crate::proofs::Ranges::padded_ranges, crate::proofs::Ranges::padded_moment, crate::proofs::Ranges::in_span))]
+#[tactic(auto, using(crate::proofs::Ranges::of_ranges, crate::proofs::Ranges::all_there, crate::proofs::Ranges::in_span))]
 fn date_by(form: Form, t: &[u8]) -> Option<u32>
     ensures { result ≡ date_by form t.now }
 {
-    let moment = moment_of(form, values_of(form, t)?);
+    let moment = moment_of(form, &values_of(form, t)?);
     moment.is_day().then(|| moment.instant())
 }
 

@@ -1,2 +1,2 @@
-mod Demand3
-mod Specimens
+pub mod Demand3
+pub mod Specimens

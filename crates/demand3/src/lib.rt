@@ -11,11 +11,13 @@ pub fn demand_three()
 {}
 
 // The marked specimens come out as document 01 says.
+#[tactic(auto, using(crate::proofs::Specimens::they_give))]
 pub fn marked_specimens()
     ensures { AllGive specimens }
 {}
 
 // Specimens of the atlas reading.
+#[tactic(auto, using(crate::proofs::Specimens::they_give_too))]
 pub fn atlas_specimens()
     ensures { AllGive atlas_specimens }
 {}

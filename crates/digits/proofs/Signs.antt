@@ -1,14 +1,12 @@
 -- A number of 64 bits with a sign: its size without it.
-use mathlib.Core.Path.{◌≡◌, refl, sym, ap, ◌∙◌}
+use mathlib.Core.Path.{◌≡◌, refl, sym, ◌∙◌}
 use mathlib.Core.Bool.{true, false, false≢true}
 use mathlib.Core.List.{[], ◌∷◌, ◌++◌}
-use Prim.Native.Nat.{ℕ, suc, ◌+◌, ◌-◌}
-use native.Mathlib.Numerals.{add-one}
+use Prim.Native.Nat.{ℕ}
 use native.Mathlib.Omega.{arith}
-use borrow.Author.Tests.{le-leb, le-ltb}
-use lib.Dec.{T}
-use lib.IntN.{ℤ, pos, negsuc, nat_abs, ◌-ℤ◌}
-use lib.Signed.{mag, le_z, non_neg}
+use borrow.Author.Tests.{le-leb}
+use lib.IntN.{ℤ, pos, negsuc, nat_abs}
+use lib.Signed.{le_z}
 use Rattle.digits.specs.Numbers.{number, signed_number}
 
 -- as text: the size, behind `-` where it is negative

@@ -9,6 +9,7 @@ use lib.Arith.{digits_div, digits_mod, mod-mul}
 use lib.Bits.{bit_and, and_block, and_mask, and_zero_r, and_le_r}
 use lib.Pow.{pow-add, pow_pos, pow_mono, split, shr-shr, mod-pow-add, mod-mod-pow, ones_lt}
 use Rattle.common.specs.Bytes.{le, AreBytes}
+use Rattle.common.proofs.Laws.{le_join}
 use Rattle.digits.specs.Numbers.{digit, digits}
 use Rattle.std.specs.Int.{byte_at, bytes_low_first, to_le_bytes}
 use mir.Syntax.{w128}
@@ -187,12 +188,6 @@ low_bytes (b ∷ l) i n h e =
     here : (i : ℕ) → n / 256 ^ i ≡ b + 256 * le l → (b + 256 * le l) % 256 ≡ b → byte_at i n ≡ b
     here zero e low = ap (λ m. m % 256) (sym (div-one n) ∙ e) ∙ low
     here (suc i) e low = ap (λ m. m % 256) e ∙ low
-
-le_join : (a b : List ℕ) → le (a ++ b) ≡ le b * 256 ^ length a + le a
-le_join [] b = omega arith
-le_join (x ∷ a) b =
-    let one_more : le b * (256 ^ length a * 256) ≡ le b * 256 ^ length a * 256 = sym (mul_assoc (le b) (256 ^ length a) 256) in
-    rw (le_join a b, pow-suc 256 (length a), one_more) (omega arith)
 
 bytes_join : (a b : List ℕ) → AreBytes a → AreBytes b → AreBytes (a ++ b)
 unfolding AreBytes

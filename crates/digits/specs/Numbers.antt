@@ -18,11 +18,6 @@ abbrev pub digits : ℕ → ℕ → ℕ → List ℕ
 digits b zero n = []
 digits b (suc k) n = digits b k (n / b) ++ (digit (n % b) ∷ [])
 
--- the k bytes of a number, little-endian
-abbrev pub bytes_of : ℕ → ℕ → List ℕ
-bytes_of zero n = []
-bytes_of (suc k) n = n % 256 ∷ bytes_of k (n / 256)
-
 -- the count of a number's decimal digits, at most one more than `others`
 abbrev pub places : ℕ → ℕ → ℕ
 places zero n = 1

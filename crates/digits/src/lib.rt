@@ -52,6 +52,8 @@ fn hex_word(n: u64) -> u64
 }
 
 // A pen over lent memory: it puts texts there, one behind the other.
+// Kept: (a) memory of a fixed size and an index, since the project has no heap; a cursor of std's answers each text with a Result, and the
+// contracts here leave no want of room to answer.
 #[derive(Drop)]
 pub struct Pen<'a> {
     pub out: &'a mut [u8],

@@ -1,23 +1,22 @@
 -- What the rule of Fetch reads, and the answers that say so.
-use mathlib.Core.Path.{◌≡◌, refl, sym, ap, ◌∙◌, subst}
-use mathlib.Core.Bool.{Bool, true, false, ◌&&◌, cond}
+use mathlib.Core.Path.{◌≡◌, refl, sym, ap, ◌∙◌}
+use mathlib.Core.Bool.{true, false, ◌&&◌}
 use mathlib.Core.List.{List}
 use Prim.Native.Nat.{ℕ, ◌-◌}
 use lib.Dec.{leb}
-use lib.ListN.{length}
 use borrow.Table.Steps.{cases as by}
 use Rattle.rules.specs.Rule.{Stop, refused, Read, got, stops, read, map_read}
 use Rattle.rules.proofs.Laws.{read_map}
 use Rattle.error.specs.Number.{number_of}
 use Rattle.error.specs.declared.Refusal.{Refusal}
 use Rattle.std.specs.Prelude.{Result, Err}
-use Rattle.fetch.specs.declared.FetchedText.{FetchedText}
+use Rattle.utf16.specs.declared.Recoded.{Recoded}
 use Rattle.fetch.specs.declared.described.Described.{Described}
 use Rattle.fetch.specs.Headers.{IsHeader, IsRefusal, text_in, replaced_units}
 use Rattle.layouts.specs.Table.{field_of}
 use Rattle.agilent.specs.Header.{known}
 use Rattle.metadata.specs.Metadata.{Header, open_rule}
-use Rattle.fetch.specs.Fetch.{text_of, fetch_rule, Outcome, wrote, refuse, number_of_stop, outcome_of, Fetches, replaced_of, replaced_by, passed_on, passed}
+use Rattle.fetch.specs.Fetch.{text_of, fetch_rule, Outcome, wrote, refuse, number_of_stop, outcome_of, Fetches, replaced_of, passed_on, passed}
 use Rattle.agilent.proofs.Checks.{passes, fails}
 use Rattle.agilent.proofs.HeaderLaws.{size_unknown, header_stops}
 use Rattle.metadata.proofs.Opens.{open_reads}
@@ -70,7 +69,7 @@ module _ (kind number : ℕ) (s old : List ℕ) where
         go (stops z) e h = refused_with (fetch_opens kind number s k i ∙ ap (map_read (text_read number)) e) h
 
     -- the text of a header that was opened
-    pub text_written : (d : Described) {r : Result FetchedText Refusal} {new : List ℕ} → IsHeader d (read true (open_rule kind) s) → ((n : ℕ) → Fetches r old new (got (text_in (number - 1) d) n))
+    pub text_written : (d : Described) {r : Result Recoded Refusal} {new : List ℕ} → IsHeader d (read true (open_rule kind) s) → ((n : ℕ) → Fetches r old new (got (text_in (number - 1) d) n))
         → replaced_of r ≡ passed_on (outcome_of r) (replaced_units (number - 1) d) → Fetches r old new (read true (fetch_rule kind number) s) × (replaced_of r ≡ passed kind number old s)
     unfolding passed
     text_written d {r} {new} h f p = go (read true (open_rule kind) s) refl h

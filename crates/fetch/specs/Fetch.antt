@@ -13,7 +13,7 @@ use Rattle.agilent.specs.Header.{check, known}
 use Rattle.metadata.specs.Metadata.{Header, open_rule}
 use Rattle.pascal.specs.declared.TextField.{TextField}
 use Rattle.pascal.specs.declared.TextField.TheVariants.{Absent, Pascal, PascalToEnd, Utf16}
-use Rattle.fetch.specs.declared.FetchedText.{FetchedText}
+use Rattle.utf16.specs.declared.Recoded.{Recoded}
 
 -- the UTF-8 of the scalars without white space at both ends
 abbrev pub trimmed_text : Decoded → List ℕ
@@ -56,12 +56,12 @@ abbrev pub held_after : List ℕ → Read (List ℕ) → List ℕ
 held_after old (got t n) = held old t
 held_after old (stops z) = old
 
-abbrev pub outcome_of : Result FetchedText Refusal → Outcome
+abbrev pub outcome_of : Result Recoded Refusal → Outcome
 outcome_of (Ok t) = wrote t.bytes
 outcome_of (Err r) = refuse (number_of r)
 
 -- the answer r, and the lent buffer before and after, by what the rule reads
-pub record Fetches (r : Result FetchedText Refusal) (old new : List ℕ) (x : Read (List ℕ)) : Type 0 where
+pub record Fetches (r : Result Recoded Refusal) (old new : List ℕ) (x : Read (List ℕ)) : Type 0 where
   pub answer : outcome_of r ≡ fetched (length old) x
   pub buffer : new ≡ held_after old x
 
@@ -85,7 +85,7 @@ passed_on (wrote n) count = count
 passed_on (refuse c) count = 0
 
 -- the number in Fetch's answer
-abbrev pub replaced_of : Result FetchedText Refusal → ℕ
+abbrev pub replaced_of : Result Recoded Refusal → ℕ
 replaced_of (Ok t) = t.replaced
 replaced_of (Err r) = 0
 

@@ -1,6 +1,6 @@
 -- A header that was opened, and the texts that stand in it.
 use Rattle.std.specs.Prelude.{◌≡◌, Bool, true, false, List, ℕ}
-use Rattle.rules.specs.Rule.{Stop, Read, got, stops}
+use Rattle.rules.specs.Rule.{Read, got, stops}
 use Rattle.error.specs.Number.{number_of}
 use Rattle.error.specs.declared.Refusal.{Refusal}
 use Rattle.utf16.specs.Utf16.{units, utf8_of, unpaired}

@@ -9,7 +9,7 @@ use crate::stored::Stored;
 use error::Refusal;
 use metadata::{ChemstationMetadata, open_header};
 
-#[derive(Clone, Copy)]
+#[derive(Clone, Copy, Debug, PartialEq)]
 pub struct Described<'a> {
     pub bytes: &'a [u8],
     pub says: ChemstationMetadata,
@@ -25,6 +25,7 @@ impl<'a> Described<'a> {
     ghost use Rattle.fetch.specs.Headers.{IsHeader, IsRefusal, text_in, replaced_units, raw, is_utf16, utf8_in, unpaired_in};
 
     // Opens a file by all its bytes.
+    #[tactic(auto, using(metadata::proofs::HeaderReads::never_finished))]
     pub fn open(kind: u8, s: &'a [u8]) -> Result<Described<'a>, Refusal>
         ensures opened { IfOk result (λ d. IsHeader d (read true (open_rule kind) s.now)) }
         ensures refused { IfErr result (λ r. IsRefusal r (read true (open_rule kind) s.now)) }
@@ -37,6 +38,7 @@ impl<'a> Described<'a> {
     }
 
     // A text as it stands there, by its number less one. An edition that lacks it has an empty one.
+    #[tactic(auto, using(crate::proofs::Texts::text_inside, crate::proofs::Texts::bytes_there, crate::proofs::Texts::new_text, crate::proofs::Texts::new_units, crate::proofs::Texts::old_text, crate::proofs::Texts::old_units))]
     pub fn text(&self, k: usize) -> Stored<'a>
         requires { k < 8 }
         ensures text { utf8_in result ≡ text_in k self.now }
@@ -46,6 +48,7 @@ impl<'a> Described<'a> {
     {
         let rest = &self.bytes[self.says.text_starts[k]..];
         let bytes = &rest[..self.says.text_lengths[k]];
+        // Kept: the edition as a number, since the description keeps it as the number that the C interface hands out. (a)
         if 102 < self.says.edition {
             Stored::Utf16(bytes)
         } else {

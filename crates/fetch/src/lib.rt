@@ -9,16 +9,11 @@ ghost use Rattle.fetch.specs.Fetch.{fetch_rule, number_of_stop, Fetches, replace
 mod described;
 mod stored;
 
+use agilent::Kind;
 pub use described::Described;
 use error::{Refusal, Stopped};
 pub use stored::Stored;
-
-// A text that was fetched: its length in bytes, and how many units of it were replaced by U+FFFD.
-#[derive(Clone, Copy)]
-pub struct FetchedText {
-    pub bytes: usize,
-    pub replaced: usize,
-}
+pub use utf16::Recoded;
 
 // A header that may not go on is refused: told last, a field that is cut is 14, and no header is 'finished'.
 pub fn refusal_of(z: Stopped) -> Refusal
@@ -27,22 +22,20 @@ pub fn refusal_of(z: Stopped) -> Refusal
 {
     match z {
         Stopped::Refused(r) => r,
-        Stopped::Finished => Refusal::Incomplete,
-        Stopped::MoreBytes => Refusal::Incomplete,
+        Stopped::Finished | Stopped::MoreBytes => Refusal::Incomplete,
     }
 }
 
 // A text by its number, from the bytes of a whole file.
-pub fn fetch_text(kind: u8, number: u8, s: &[u8], out: &mut [u8]) -> Result<FetchedText, Refusal>
+// Kept: the kind and the text are numbers here, as the C interface hands them over, and a number that is none is refused here. (a)
+pub fn fetch_text(kind: u8, number: u8, s: &[u8], out: &mut [u8]) -> Result<Recoded, Refusal>
     ensures text { Fetches result out.old out.new (read true (fetch_rule kind number) s.now) }
     ensures replaced { replaced_of result ≡ passed kind number out.old s.now }
 {
-    if !(1..=6).contains(&kind) {
-        return Err(Refusal::UnknownKind);
-    }
+    Kind::try_from(kind)?;
     if !(1..=8).contains(&number) {
         return Err(Refusal::UnknownText);
     }
     let header = Described::open(kind, s)?;
-    header.text(number as usize - 1).write(out)
+    header.text(usize::from(number) - 1).write(out)
 }

@@ -1,7 +1,7 @@
 // FID: the record stream of a flame ionization detector.
 #![tactic(auto)]
 
-ghost use Rattle.std.specs.Prelude.{◌≡◌, ◌∷◌, []};
+ghost use Rattle.std.specs.Prelude.{◌≡◌, ◌∷◌, [], Ok};
 ghost use Rattle.rules.specs.Rule.{got, read};
 ghost use Rattle.streams.specs.Changes.{slopes, restarts};
 ghost use Rattle.streams.specs.Told.{told};
@@ -18,8 +18,8 @@ const DELTA: usize = 2;
 const RESTART: usize = 8;
 
 // The record of a value, and the state after it.
-fn fid_given(st: ChemstationFidState, slope: f64, value: f64, n: usize) -> Result<Given, Stopped>
-    ensures { answer_of result ≡ got (item_of (fid_made st) (record { slope = slope; value = value })) n }
+fn fid_given(st: ChemstationFidState, slope: f64, value: f64, n: usize) -> Given
+    ensures { answer_of (Ok result) ≡ got (item_of (fid_made st) (record { slope = slope; value = value })) n }
 {
     let cur_time = st.cur_time + st.time_step;
     let record = Record::trace(cur_time, value, st.mult_correction, st.offset_correction);
@@ -29,24 +29,25 @@ fn fid_given(st: ChemstationFidState, slope: f64, value: f64, n: usize) -> Resul
         cur_intensity: value,
         ..st
     };
-    Ok(Given {
+    Given {
         record,
         state: State::Fid(state),
         bytes: n,
-    })
+    }
 }
 
 // A restart: high × 65534 + low, slope 0.
-fn fid_restart(st: ChemstationFidState, high: i32, low: u16) -> Result<Given, Stopped>
-    ensures { answer_of result ≡ got (stepped (sum_of (State.Fid st)) (told (fid_made st) (restarts high low ∷ []))) 8 }
+#[tactic(auto, using(crate::proofs::FidLaws::zero_is, crate::proofs::FidLaws::factor_is, crate::proofs::FidLaws::passed_on))]
+fn fid_restart(st: ChemstationFidState, high: i32, low: u16) -> Given
+    ensures { answer_of (Ok result) ≡ got (stepped (sum_of (State.Fid st)) (told (fid_made st) (restarts high low ∷ []))) 8 }
 {
     let intensity = f64::from(high) * 65534.0 + f64::from(low);
     fid_given(st, 0.0, intensity, RESTART)
 }
 
 // A delta: slope += v, value += slope.
-fn fid_slope(st: ChemstationFidState, v: i16) -> Result<Given, Stopped>
-    ensures { answer_of result ≡ got (stepped (sum_of (State.Fid st)) (told (fid_made st) (slopes v ∷ []))) 2 }
+fn fid_slope(st: ChemstationFidState, v: i16) -> Given
+    ensures { answer_of (Ok result) ≡ got (stepped (sum_of (State.Fid st)) (told (fid_made st) (slopes v ∷ []))) 2 }
 {
     let delta = st.cur_delta + f64::from(v);
     let intensity = st.cur_intensity + delta;
@@ -54,6 +55,7 @@ fn fid_slope(st: ChemstationFidState, v: i16) -> Result<Given, Stopped>
 }
 
 // The next record of FID.
+#[tactic(auto, using(crate::proofs::FidLaws::fid_none, crate::proofs::FidLaws::fid_cut, crate::proofs::FidLaws::fid_restart_cut, crate::proofs::FidLaws::fid_restarts, crate::proofs::FidLaws::fid_slopes, crate::proofs::FidLaws::passed_on))]
 pub fn fid_next(st: ChemstationFidState, s: &[u8], last: bool) -> Result<Given, Stopped>
     ensures { answer_of result ≡ read last (rule_by (State.Fid st) (fid_rule st)) s.now }
 {
@@ -65,10 +67,10 @@ pub fn fid_next(st: ChemstationFidState, s: &[u8], last: bool) -> Result<Given, 
     }
     let v = i16::be_at(s, 0);
     if v != 32767 {
-        return fid_slope(st, v);
+        return Ok(fid_slope(st, v));
     }
     if s.len() < RESTART {
         return Err(lacking(last, false));
     }
-    fid_restart(st, i32::be_at(s, 2), u16::be_at(s, 6))
+    Ok(fid_restart(st, i32::be_at(s, 2), u16::be_at(s, 6)))
 }

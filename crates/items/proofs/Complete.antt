@@ -11,10 +11,10 @@ use Rattle.utf8.proofs.Cases.{both, inside}
 use Rattle.items.specs.declared.Item.{Item}
 use Rattle.items.specs.declared.Item.TheVariants.{Sign, Two, OneOrTwo, MonthName, HalfDay, PlusMinus}
 use Rattle.std.proofs.Common.{Option, None}
+use Rattle.std.proofs.lemmas.Bool.{cond-true}
 use Rattle.items.specs.declared.Found.{Found}
 use Rattle.items.specs.Items.{passed, valued, is_digit, lower, ranged, two as two_of, half, stands_at}
 use Rattle.items.specs.Writing.{digit_char, Writes, sign, two, one, or_two, month, am, pm, plus, minus}
-use Rattle.items.proofs.Items.{taken}
 use Rattle.items.proofs.Letters.{uncased, lowered_at, month_letters}
 
 digit_in : (d : ℕ) → d ≤ 9 → is_digit (digit_char d) ≡ true
@@ -53,7 +53,7 @@ found (two {least = l} {most = m} {d} {e} h k a b) t q = two_found l m d e h k a
 found (one {least = l} {most = m} {d} h a b) t q = let x : 48 + d - 48 ≡ d = omega arith in rw (q, digit_in d h, x, inside l m d a b)
 found (or_two {least = l} {most = m} {d} {e} h k a b) t q =
     let one = cond (is_digit (digit_char d)) (ranged l m (digit_char d - 48) 1) None in
-    sym (taken (two_of l m (digit_char d) (digit_char e)) one (digit_in e k)) ∙ two_found l m d e h k a b
+    cond-true (is_digit (digit_char e)) (two_of l m (digit_char d) (digit_char e)) one (digit_in e k) ∙ two_found l m d e h k a b
 found (month {m} {s} a b r) t q = let p = month_letters m s t a b r in rw (p.0, p.1, inside 1 12 m a b)
 found (am {s} r) t q = half_found s t (ascii "am") 0 (uncased r refl) refl refl
 found (pm {s} r) t q = half_found s t (ascii "pm") 12 (uncased r refl) refl refl

@@ -1,36 +1,25 @@
--- Items at the start of a text.
+-- The months by their names.
 use mathlib.Core.Path.{◌≡◌, refl, sym, ◌∙◌}
-use mathlib.Core.Bool.{Bool, true, false, cond, ◌&&◌}
+use mathlib.Core.Bool.{Bool, true, ◌&&◌}
 use mathlib.Core.List.{List, [], ◌∷◌}
-use Prim.Native.Nat.{ℕ, suc, ◌+◌, ◌≤◌}
+use Prim.Native.Nat.{ℕ, suc, ◌+◌}
 use native.Mathlib.Omega.{arith}
 use lib.Dec.{eqb}
+use Rattle.std.proofs.Math.Bool.{and-true, and_assoc}
 use lib.ListN.{length, get_or}
 use borrow.Table.Steps.{cases as by}
 use native.Mathlib.Numerals.{add-one}
 use borrow.Author.Tests.{eqb-true}
 use Prim.Native.String.{String}
 use Rattle.common.specs.Ascii.{ascii}
-use Rattle.utf8.proofs.Cases.{first, second, least, most, inside}
+use Rattle.utf8.proofs.Cases.{first, second, inside}
 use Rattle.std.proofs.Common.{map, ap, Option, Some, None}
 use Rattle.std.specs.Cmp.Lexicographic.{pointwise}
 use Rattle.std.specs.List.{position, position_from}
 use Rattle.std.proofs.lemmas.Iterator.Adapters.{position_from-zero}
 use Rattle.std.proofs.lemmas.List.Quantifiers.{position-Some}
 use Rattle.std.specs.Option.{option_map_or}
-use Rattle.items.specs.Items.{is_digit, month_names, spells, named_from, month_named, ranged, valued}
-
--- the side of a test that is taken
-pub taken : {A : Type 0} {b : Bool} (x y : A) → b ≡ true → x ≡ cond b x y
-taken x y e = rw e
-
-pub digit_least : (a : ℕ) → is_digit a ≡ true → 48 ≤ a
-digit_least a e = least 48 57 a e
-
-pub digit_most : (a : ℕ) → is_digit a ≡ true → a ≤ 57
-digit_most a e = most 48 57 a e
-
--- ---- months
+use Rattle.items.specs.Items.{month_names, spells, named_from, month_named, ranged, valued}
 
 pub three : (s : List ℕ) → length s ≡ 3 → s ≡ get_or s 0 0 ∷ get_or s 1 0 ∷ get_or s 2 0 ∷ []
 three [] e = absurd (omega arith)
@@ -51,13 +40,7 @@ module _ (a b c : ℕ) where
   is_name name = pointwise eqb (a ∷ b ∷ c ∷ []) name
 
   spells_name : (name : String) → length (ascii name) ≡ 3 → is_name (ascii name) ≡ spells a b c name
-  spells_name name h = rw (three (ascii name) h) (regroup (eqb a (get_or (ascii name) 0 0)) (eqb b (get_or (ascii name) 1 0)) (eqb c (get_or (ascii name) 2 0)))
-    where
-      regroup : (p q r : Bool) → (p && (q && (r && true))) ≡ (p && q && r)
-      regroup true true true = refl
-      regroup true true false = refl
-      regroup true false r = refl
-      regroup false q r = refl
+  spells_name name h = rw (three (ascii name) h, and-true, and_assoc) refl
 
   -- the first name that is these letters, where the first of the list has the number i
   named_at : (names : List String) (i : ℕ) → sized names ≡ true → named_from (suc i) names a b c ≡ option_map_or suc (position_from is_name i (map ascii names)) 0

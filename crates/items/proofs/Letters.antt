@@ -2,7 +2,7 @@
 use mathlib.Core.Path.{◌≡◌, refl, sym, ap, ◌∙◌, subst, ap₂}
 use mathlib.Core.Bool.{Bool, true, ◌&&◌}
 use mathlib.Core.List.{List, [], ◌∷◌, ◌++◌, map}
-use Prim.Native.Nat.{ℕ, suc, ◌+◌, ◌-◌, ◌≤◌, ◌<◌}
+use Prim.Native.Nat.{ℕ, zero, suc, ◌+◌, ◌-◌, ◌≤◌, ◌<◌}
 use Prim.Native.String.{String}
 use native.Mathlib.Omega.{arith}
 use lib.Dec.{eqb}
@@ -12,8 +12,12 @@ use borrow.Table.Steps.{cases as by}
 use Rattle.common.specs.Ascii.{ascii}
 use Rattle.utf8.specs.Utf8.{within}
 use Rattle.utf8.proofs.Cases.{first, second, least, most, inside, every, each}
-use Rattle.items.specs.Items.{lower, month_names, spells, named_from, month_named}
-use Rattle.items.proofs.Items.{three}
+use Rattle.std.proofs.Common.{Option, None, Some}
+use Rattle.std.specs.Option.{option_map}
+use Rattle.std.specs.List.{slice_get}
+use Rattle.items.specs.declared.Item.TheVariants.{MonthName}
+use Rattle.items.specs.Items.{lower, ranged, valued, stands_at, month_names, spells, named_from, month_named}
+use Rattle.items.proofs.Items.{three, place, no_month, a_month}
 use Rattle.items.specs.Writing.{AnyCase, none, small, capital}
 
 -- a small letter
@@ -106,6 +110,49 @@ third_letter a b c h =
     let m = month_named a b c in
     let e : smalls (a ∷ b ∷ c ∷ []) ≡ true = subst (λ (l : List ℕ). smalls l ≡ true) (sym (spelled a b c h)) (letters_small (m - 1) (omega (arith, least 1 12 m h, most 1 12 m h))) in
     least 97 122 c (first (is_small c) true (second (is_small b) (is_small c && true) (second (is_small a) (is_small b && (is_small c && true)) e)))
+
+-- ---- the letters at the start of a text
+
+-- a text of fewer than three characters has no name
+pub short_of_month : (a b : ℕ) → None ≡ ranged 1 12 (month_named a b 0) 3
+short_of_month a b = by (within 1 12 (month_named a b 0)) (λ e. absurd (omega (arith, third_letter a b 0 e))) (λ f. rw f)
+
+abbrev letter_in : List ℕ → ℕ → Option ℕ
+letter_in t k = option_map (λ (c : ℕ). lower c) (slice_get t k)
+
+pub no_first : (t : List ℕ) → letter_in t 0 ≡ None → None ≡ stands_at MonthName t
+unfolding stands_at
+no_first [] e = short_of_month _ _
+no_first (a ∷ t) e = cc
+
+pub no_second : (t : List ℕ) → letter_in t 1 ≡ None → None ≡ stands_at MonthName t
+unfolding stands_at
+no_second [] e = short_of_month _ _
+no_second (a ∷ []) e = short_of_month _ _
+no_second (a ∷ b ∷ t) e = cc
+
+pub no_third : (t : List ℕ) → letter_in t 2 ≡ None → None ≡ stands_at MonthName t
+unfolding stands_at
+no_third [] e = short_of_month _ _
+no_third (a ∷ []) e = short_of_month _ _
+no_third (a ∷ b ∷ []) e = short_of_month _ _
+no_third (a ∷ b ∷ c ∷ t) e = cc
+
+the_letter : (t : List ℕ) (k x : ℕ) → letter_in t k ≡ Some x → lower (get_or t k 0) ≡ x
+the_letter [] k x e = cc
+the_letter (a ∷ t) zero x e = cc
+the_letter (a ∷ t) (suc k) x e = the_letter t k x e
+
+module _ (t : List ℕ) (a b c : ℕ) (p : letter_in t 0 ≡ Some a) (q : letter_in t 1 ≡ Some b) (r : letter_in t 2 ≡ Some c) where
+  by_letters : ranged 1 12 (month_named a b c) 3 ≡ stands_at MonthName t
+  unfolding stands_at
+  by_letters = rw (the_letter t 0 a p, the_letter t 1 b q, the_letter t 2 c r)
+
+  pub no_name : place a b c ≡ None → None ≡ stands_at MonthName t
+  no_name e = no_month a b c e ∙ by_letters
+
+  pub the_name : (k : ℕ) → place a b c ≡ Some k → valued (k + 1) 3 ≡ stands_at MonthName t
+  the_name k e = a_month a b c k e ∙ by_letters
 
 -- ---- letters in any case, lowered
 

@@ -18,8 +18,7 @@ use Rattle.std.proofs.Common.{Option, Some, None}
 use Rattle.items.specs.declared.Found.{Found}
 use Rattle.items.specs.Items.{passed as passed_of, valued, is_digit, lower, starts, ranged, two as two_of, one_or_two, month_names, month_named, half, stands_at}
 use Rattle.items.specs.Writing.{digit_char, AnyCase, none, Writes, sign, two, one, or_two, month, am, pm, plus, minus}
-use Rattle.items.proofs.Items.{digit_least, digit_most}
-use Rattle.items.proofs.Letters.{cased, spelled, third_letter}
+use Rattle.items.proofs.Letters.{cased, spelled, short_of_month}
 
 -- the first n characters of a text write a value of an item
 pub record Stands (i : Item) (v : List ℕ) (n : ℕ) (t : List ℕ) : Type 0 where
@@ -61,7 +60,7 @@ plus_minus_stood (a ∷ t) =
 
 -- a digit is the character of its number
 digit_char_lem : (a : ℕ) → is_digit a ≡ true → (digit_char (a - 48) ≡ a) × (a - 48 ≤ 9)
-digit_char_lem a e = (omega (arith, digit_least a e), omega (arith, digit_most a e))
+digit_char_lem a e = (omega (arith, least 48 57 a e), omega (arith, most 48 57 a e))
 
 -- two digits, of an item that is written by them
 two_stood : (i : Item) (l m a b : ℕ) (t : List ℕ) → ((d e : ℕ) → d ≤ 9 → e ≤ 9 → l ≤ 10 * d + e → 10 * d + e ≤ m → Writes i ((10 * d + e) ∷ []) (digit_char d ∷ digit_char e ∷ []))
@@ -108,9 +107,8 @@ half_stood (a ∷ b ∷ t) =
     (λ q. either (eqb (lower a) 112) (λ p. value (there t (pm (cased a 112 (eqb-true (lower a) 112 p) m)) refl)) (λ f. nothing)))
     (λ f. nothing)
 
--- a text of fewer than three characters has no name
 short_month : (a b : ℕ) (t : List ℕ) → Stood MonthName t (ranged 1 12 (month_named a b 0) 3)
-short_month a b t = either (within 1 12 (month_named a b 0)) (λ e. absurd (omega (arith, third_letter a b 0 e))) (λ f. nothing)
+short_month a b t = rw (← short_of_month a b) nothing
 
 month_stood : (t : List ℕ) → Stood MonthName t (ranged 1 12 (month_named (lower (get_or t 0 0)) (lower (get_or t 1 0)) (lower (get_or t 2 0))) 3)
 month_stood [] = short_month _ _ []

@@ -1,14 +1,17 @@
 // What stands in a form of a date, item by item: characters, numbers, names of months, am and pm.
 #![tactic(auto)]
 
-ghost use Rattle.std.specs.Prelude.{◌≡◌, ◌&&◌, ◌+◌, ◌*◌, nat_eq};
+ghost use Rattle.std.specs.Prelude.{◌≡◌, ◌&&◌, ◌+◌, ◌*◌, nat_eq, slice_get};
 ghost use Rattle.std.specs.Bool.{then_some};
+ghost use Rattle.std.specs.Option.{option_map};
 ghost use Rattle.std.specs.List.{position};
 ghost use Rattle.std.specs.Cmp.Lexicographic.{pointwise};
 ghost use Rattle.items.specs.declared.Item.TheVariants.{OneOrTwo, MonthName, HalfDay};
 ghost use Rattle.items.specs.Items.{is_digit, digit, char_at, lower, ranged, stands_at};
 
 // What stands in a form, one behind the other. The two numbers are the least and the most.
+// Kept: (d) a struct of the two would stand in each row of a form, `Two(Bounds { least: 1, most: 31 })` for `Two(1, 31)`, for the one test of a
+// range; `Two(1..=31)` would be no Copy, and the definitions would speak of its third field, whether it is used up.
 #[derive(Clone, Copy, Debug, PartialEq, Eq)]
 pub enum Item {
     // this character
@@ -69,12 +72,11 @@ const MONTHS: [[u8; 3]; 12] = [
     *b"nov", *b"dec",
 ];
 
-// The character at a place as a small letter, 0 behind the end.
-fn letter_at(t: &[u8], at: usize) -> u8
-    ensures { result ≡ lower (char_at t.now at) }
+// The character at a place as a small letter.
+fn letter_at(t: &[u8], at: usize) -> Option<u8>
+    ensures { result ≡ option_map (λ c. lower c) (slice_get t.now at) }
 {
-    // Kept: 0 is no letter, as the definition of a character at a place has it; an Option would be taken apart at each letter and say no more.
-    t.get(at).map_or(0, |c| c.to_ascii_lowercase())
+    Some(t.get(at)?.to_ascii_lowercase())
 }
 
 // Which of the names three small letters are, from 0.
@@ -84,14 +86,15 @@ fn place_of(letters: [u8; 3]) -> Option<usize>
     MONTHS.iter().position(|name| letters == *name)
 }
 
-#[tactic(auto, using(crate::proofs::Items::no_month, crate::proofs::Items::a_month), unfolding(crate::specs::Items::stands_at))]
+#[tactic(auto, using(crate::proofs::Letters::no_first, crate::proofs::Letters::no_second, crate::proofs::Letters::no_third, crate::proofs::Letters::no_name))]
 fn month_at(t: &[u8]) -> Option<Found>
     ensures { result ≡ stands_at MonthName t.now }
 {
-    let letters = [letter_at(t, 0), letter_at(t, 1), letter_at(t, 2)];
+    let letters = [letter_at(t, 0)?, letter_at(t, 1)?, letter_at(t, 2)?];
     let place = place_of(letters)?;
     Some(Found {
-        // Kept: the place is below twelve, and u8 has no From of a usize; try_from would add a None that never comes.
+        // Kept: (d) the place is below twelve, so the cast loses nothing; u8 has no From of a usize, try_from would add a None that never
+        // comes, and the numbers 1 to 12 beside the names would say again what their order says.
         value: Some(place as u8 + 1),
         width: 3,
     })
@@ -101,7 +104,7 @@ fn month_at(t: &[u8]) -> Option<Found>
 fn half_at(t: &[u8]) -> Option<Found>
     ensures { result ≡ stands_at HalfDay t.now }
 {
-    let hours = match [letter_at(t, 0), letter_at(t, 1)] {
+    let hours = match [letter_at(t, 0)?, letter_at(t, 1)?] {
         [b'a', b'm'] => 0,
         [b'p', b'm'] => 12,
         _ => return None,

@@ -11,7 +11,8 @@ use error::Refusal;
 use pascal::TextField;
 
 // How the start and the end of a run are stored.
-// Kept: `Nowhere` as a third case, since an `Option` of the two others would only add a second match.
+// Kept: `Nowhere` as a third case. The definition of a time has three, and so has the match on this; with an `Option` both would still
+// have three, and the tables of specs would hold `Some` of the other two. (d)
 #[derive(Clone, Copy, Debug, PartialEq, Eq)]
 pub enum Clock {
     Nowhere,

@@ -18,6 +18,7 @@ use Rattle.utf8.specs.Utf8.{Scalar, Scalars, Utf8, encodes, Decoded, bad, text, 
 use Rattle.utf8.proofs.Cases.{never}
 use Rattle.utf8.proofs.Decodes.{exactly}
 use Rattle.trim.specs.WhiteSpace.{white, trim_start, keep, trim_end, trim}
+use Rattle.trim.proofs.Library.{start_scalars}
 use Rattle.agilent.specs.Header.{known, header_rule}
 use Rattle.utf16.specs.Utf16.{units}
 use Rattle.utf16.proofs.Units.{recodes}
@@ -27,7 +28,7 @@ use Rattle.pascal.specs.declared.TextField.{TextField}
 use Rattle.pascal.specs.declared.TextField.TheVariants.{Absent, Pascal, PascalToEnd, Utf16}
 use Rattle.metadata.specs.Metadata.{Header, metadata_rule, scans_rule, open_rule}
 use Rattle.fetch.specs.Fetch.{trimmed_text, text_of, fetch_rule, Outcome, wrote, refuse, outcome_of, Fetches, replaced_of, replaced_in, replaced_by, passed_on, passed}
-use Rattle.fetch.specs.declared.FetchedText.{FetchedText}
+use Rattle.utf16.specs.declared.Recoded.{Recoded}
 use Rattle.fetch.proofs.Texts.{old_units}
 use Rattle.std.specs.Prelude.{Result}
 use Rattle.error.specs.declared.Refusal.{Refusal}
@@ -82,11 +83,6 @@ trim_keeps cs = end_keeps (trim_start cs) ∙ start_keeps cs
 
 -- nor makes it any
 
-start_scalars : (cs : List ℕ) → Scalars cs → Scalars (trim_start cs)
-unfolding trim_start
-start_scalars [] s = s
-start_scalars (c ∷ cs) s = by (white c) (λ w. simp w (start_scalars cs s.1)) λ w. simp w s
-
 keep_scalars : (c : ℕ) (ds : List ℕ) → Scalar c → Scalars ds → Scalars (keep c ds)
 keep_scalars c [] s t = by (white c) (λ w. simp w tt) λ w. simp w (s, tt)
 keep_scalars c (d ∷ ds) s t = (s, t)
@@ -139,7 +135,7 @@ same_count : {n k : ℕ} → wrote n ≡ wrote k → n ≡ k
 same_count e = cc
 
 -- a text that was written stands at the buffer's start
-stands : (r : Result FetchedText Refusal) (old new t : List ℕ) (m n : ℕ) → Fetches r old new (got t m) → outcome_of r ≡ wrote n → take n new ≡ t
+stands : (r : Result Recoded Refusal) (old new t : List ℕ) (m n : ℕ) → Fetches r old new (got t m) → outcome_of r ≡ wrote n → take n new ≡ t
 stands r old new t m n f w =
     by (leb (length t) (length old))
     (λ b.
@@ -148,7 +144,7 @@ stands r old new t m n f w =
     ap (take n) p ∙ take_at t (drop (length t) old) n (sym (same_count (sym w ∙ e))))
     λ b. let e : outcome_of r ≡ refuse 15 = simp b at f.answer in absurd (wrote≢refuse (sym w ∙ e))
 
-module _ (kind number : ℕ) (s : List ℕ) (r : Result FetchedText Refusal) (old new : List ℕ) (g : Given kind number s r old new) where
+module _ (kind number : ℕ) (s : List ℕ) (r : Result Recoded Refusal) (old new : List ℕ) (g : Given kind number s r old new) where
   abbrev opened : Read Header
   opened = read true (open_rule kind) s
 
@@ -211,7 +207,7 @@ module _ (kind : ℕ) (s : List ℕ) (r : Result FetchedTexts Refusal) (m : Both
       let e : suc (number - 1) ≡ number = omega arith in
       table (map (numbered o) numbers) 0 8 (λ k. numbered o (suc k)) refl (number - 1) (omega arith) ∙ ap (numbered o) e
 
-  each_is : (number n k : ℕ) (f : Result FetchedText Refusal) (old new : List ℕ) → 1 ≤ number → number ≤ 8 → Given kind number s f old new → all.outcome_of r ≡ wrote n → outcome_of f ≡ wrote k
+  each_is : (number n k : ℕ) (f : Result Recoded Refusal) (old new : List ℕ) → 1 ≤ number → number ≤ 8 → Given kind number s f old new → all.outcome_of r ≡ wrote n → outcome_of f ≡ wrote k
       → get_or (all.replaced_of r) (number - 1) 0 ≡ replaced_of f
   each_is number n k f old new low high h p q =
       ap (λ (l : List ℕ). get_or l (number - 1) 0) each_answer ∙ by_number (all.outcome_of r) number low high

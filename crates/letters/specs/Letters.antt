@@ -12,7 +12,7 @@ use Rattle.pascal.specs.declared.TextField.TheVariants.{Absent, Pascal, PascalTo
 use Rattle.metadata.specs.Metadata.{Header, open_rule}
 use Rattle.error.specs.declared.Refusal.{Refusal}
 use Rattle.fetch.specs.Fetch.{fetch_rule, wrote, refuse, outcome_of, Fetches, replaced_of, passed}
-use Rattle.fetch.specs.declared.FetchedText.{FetchedText}
+use Rattle.utf16.specs.declared.Recoded.{Recoded}
 use Rattle.texts.specs.Eight.{eight_rule, Texts, FetchesAll, all_passed}
 use Rattle.texts.specs.Eight as all
 use Rattle.texts.specs.declared.FetchedTexts.{FetchedTexts}
@@ -64,12 +64,12 @@ scalars_in (PascalToEnd start) h = trimmed_scalars (decode (part (start + 1) (ge
 scalars_in (Utf16 start) h = utf16 (units (part (start + 1) (2 * get_or h start 0) h))
 
 -- what Fetch gives by its contract: the answer r with the number beside it, and the lent buffer before and after
-pub record Given (kind number : ℕ) (s : List ℕ) (r : Result FetchedText Refusal) (old new : List ℕ) : Type 0 where
+pub record Given (kind number : ℕ) (s : List ℕ) (r : Result Recoded Refusal) (old new : List ℕ) : Type 0 where
   pub fetches : Fetches r old new (read true (fetch_rule kind number) s)
   pub count : replaced_of r ≡ passed kind number old s
 
 -- what its number says
-pub record Tells (kind number : ℕ) (s : List ℕ) (r : Result FetchedText Refusal) (new : List ℕ) : Type 0 where
+pub record Tells (kind number : ℕ) (s : List ℕ) (r : Result Recoded Refusal) (new : List ℕ) : Type 0 where
   -- 'A refusal passes 0'
   pub refused : (c : ℕ) → outcome_of r ≡ refuse c → replaced_of r ≡ 0
   -- 'an old-edition text reports 0'
@@ -91,12 +91,12 @@ pub record TellAll (kind : ℕ) (s : List ℕ) (r : Result FetchedTexts Refusal)
   pub eight : length (all.replaced_of r) ≡ 8
   pub refused : (c k : ℕ) → all.outcome_of r ≡ refuse c → get_or (all.replaced_of r) k 0 ≡ 0
   -- each number is Fetch's, where neither is refused
-  pub each : (number n m : ℕ) (f : Result FetchedText Refusal) (old new : List ℕ) → 1 ≤ number → number ≤ 8 → Given kind number s f old new → all.outcome_of r ≡ wrote n → outcome_of f ≡ wrote m
+  pub each : (number n m : ℕ) (f : Result Recoded Refusal) (old new : List ℕ) → 1 ≤ number → number ≤ 8 → Given kind number s f old new → all.outcome_of r ≡ wrote n → outcome_of f ≡ wrote m
       → get_or (all.replaced_of r) (number - 1) 0 ≡ replaced_of f
 
 -- ---- the theorem
 
 pub record ReplacedLetters : Type 0 where
   pub decoder : OfUnits
-  pub fetch : (kind number : ℕ) (s : List ℕ) (r : Result FetchedText Refusal) (old new : List ℕ) → AreBytes s → Given kind number s r old new → Tells kind number s r new
+  pub fetch : (kind number : ℕ) (s : List ℕ) (r : Result Recoded Refusal) (old new : List ℕ) → AreBytes s → Given kind number s r old new → Tells kind number s r new
   pub texts : (kind : ℕ) (s : List ℕ) (r : Result FetchedTexts Refusal) (m : Both Texts Texts) → GivenAll kind s r m → TellAll kind s r

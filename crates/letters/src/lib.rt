@@ -6,7 +6,7 @@ ghost use Rattle.texts.specs.Eight.{lent_texts};
 ghost use Rattle.letters.specs.Letters.{Given, Tells, GivenAll, TellAll, ReplacedLetters};
 
 use error::Refusal;
-use fetch::FetchedText;
+use fetch::Recoded;
 use texts::FetchedTexts;
 
 // A text's U+FFFD are those that stand in the header and one for each unit that was replaced; and each of them is counted.
@@ -15,7 +15,7 @@ pub fn replaced_letters()
 {}
 
 // Fetch a text, with what its number says: so the theorem is of the very function.
-pub fn fetch_told(kind: u8, number: u8, s: &[u8], out: &mut [u8]) -> Result<FetchedText, Refusal>
+pub fn fetch_told(kind: u8, number: u8, s: &[u8], out: &mut [u8]) -> Result<Recoded, Refusal>
     ensures given { Given kind number s.now result out.old out.new }
     ensures tells { Tells kind number s.now result out.new }
 {
@@ -23,7 +23,8 @@ pub fn fetch_told(kind: u8, number: u8, s: &[u8], out: &mut [u8]) -> Result<Fetc
 }
 
 // All texts at once, with what their numbers say.
-// Kept: the bytes, the starts and the lengths are parameters of their own, since C lends them so.
+// Kept: the bytes, the starts and the lengths are the parameters of `fetch_texts`, of which this is the theorem: C lends the three one by one
+// (a), and a struct would be made here only to be taken apart in the one call (d).
 pub fn texts_told(
     kind: u8,
     s: &[u8],

@@ -1,4 +1,5 @@
 // The lines of a log, put by a pen.
+// Kept: (d) no `write!`: it says what it wrote only with an Ok, which no clause promises (see digits), so that each line could fail.
 #![tactic(auto)]
 
 ghost use Rattle.std.specs.Prelude.{◌+◌, ◌≤◌, [], ◌∷◌, length};
@@ -72,6 +73,7 @@ fn put_point(pen: &mut Pen<'_>, t: f64, x: f64, u: f64, s: f64)
 }
 
 // The line of a record.
+#[tactic(auto, unfolding(crate::specs::Lines::record_line))]
 #[inline(always)]
 pub fn put_record(pen: &mut Pen<'_>, r: Record)
     requires { pen.old.at + 70 ≤ length pen.old.out.now }
@@ -133,6 +135,7 @@ pub fn put_total(pen: &mut Pen<'_>, t: Total)
 }
 
 // The closing answer, and what ends its field.
+#[tactic(auto, unfolding(crate::specs::Lines::answer_text))]
 fn put_answer(pen: &mut Pen<'_>, z: Stopped)
     requires { pen.old.at + 21 ≤ length pen.old.out.now }
     ensures put { Puts (answer_text (stop_of z)) pen.old pen.new }
@@ -206,6 +209,7 @@ pub fn put_left(pen: &mut Pen<'_>, scan: usize, behind: usize)
 }
 
 // The line that tells that the input was too long.
+#[tactic(auto, unfolding(crate::specs::Left::too_long_line))]
 pub fn put_too_long(pen: &mut Pen<'_>)
     requires { pen.old.at + 128 ≤ length pen.old.out.now }
     ensures put { Puts too_long_line pen.old pen.new }

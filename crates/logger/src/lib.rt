@@ -16,24 +16,24 @@ use streams::Mode;
 // How many bytes the words of a failure may have.
 const WORDS: usize = 128;
 
-// Where the number begins that std puts behind the system's words, or the text's length where there is none.
-fn words_end(text: &[u8]) -> usize
-    ensures { result ≤ length text.now }
+// The system's words without the number that std puts behind them.
+fn without_number(text: &[u8]) -> &[u8]
+    ensures { length result.now ≤ length text.now }
 {
     match text.iter().rposition(|b| *b == b'(') {
-        Some(i) => i.saturating_sub(1),
-        None => text.len(),
+        Some(i) => &text[..i.saturating_sub(1)],
+        None => text,
     }
 }
 
-// Puts the system's words for a failure at the start of the buffer, and answers how many bytes they have.
-fn put_words(e: &io::Error, words: &mut [u8]) -> usize
-    ensures { result ≤ length words.old }
+// The system's words for a failure, in lent memory.
+fn words_of<'a>(e: &io::Error, words: &'a mut [u8]) -> &'a [u8]
+    ensures { length result.now ≤ length words.old }
 {
     let mut text = Cursor::new(&mut words[..]);
     let _ = write!(text, "{e}");
     let n = (text.position() as usize).min(words.len());
-    words_end(&words[..n])
+    without_number(&words[..n])
 }
 
 // The name of the program that reads so, before what it tells.
@@ -46,31 +46,75 @@ fn name(mode: Mode) -> &'static [u8]
     }
 }
 
-// Tells what failed and why, in a line.
-fn fail<E: Write>(mode: Mode, errors: &mut E, what: &[u8], e: &io::Error) {
-    let mut words = [0u8; WORDS];
-    let n = put_words(e, &mut words);
-    let _ = errors.write_all(name(mode));
-    let _ = errors.write_all(what);
-    let _ = errors.write_all(b": ");
-    let _ = errors.write_all(&words[..n]);
-    let _ = errors.write_all(b"\n");
-}
-
 // Where a run stands behind what it asked for; an Err where that was not done whole: the run is then over, and what stands in the
 // output buffer may still be written.
 type Stand = Result<Place, Place>;
 
-// Reads behind the first n bytes. A read that fails is told on standard error, and ends the run.
-fn read_more<R: Read, E: Write>(
+// Where it is told what failed, behind the name of the program that reads so.
+#[derive(Drop)]
+struct Teller<'a, E> {
     mode: Mode,
+    to: &'a mut E,
+}
+
+impl<E: Write> Teller<'_, E> {
+    // Tells what failed and why, in a line.
+    // Kept: (d) no `write!`: the system's words are bytes, cut where the memory ends, and so no text that it takes.
+    fn fail(&mut self, what: &[u8], e: &io::Error)
+        ensures { self.new.mode ≡ self.old.mode }
+    {
+        let mut memory = [0u8; WORDS];
+        let words = words_of(e, &mut memory);
+        let _ = self.to.write_all(name(self.mode));
+        let _ = self.to.write_all(what);
+        let _ = self.to.write_all(b": ");
+        let _ = self.to.write_all(words);
+        let _ = self.to.write_all(b"\n");
+    }
+
+    // Where a run stands when a text was written, or not. What could not be written is told, and ends the run.
+    fn written(&mut self, q: Place, done: io::Result<()>) -> Stand
+        ensures mode { self.new.mode ≡ self.old.mode }
+        ensures falls { (p : Place) → weight q < weight p → weight (place_of result) < weight p }
+        ensures ok { IfOk result (λ r. IsOk done × (r ≡ q)) }
+        ensures same { IsOk done → self.new.to.now ≡ self.old.to.now }
+    {
+        match done {
+            Ok(()) => Ok(q.wrote(true)),
+            Err(e) => {
+                self.fail(b"standard output", &e);
+                Err(q.wrote(false))
+            }
+        }
+    }
+
+    // Tells the first n bytes.
+    fn tell(&mut self, q: Place, n: usize, out: &[u8]) -> Stand
+        requires { n ≤ length out.now }
+        ensures mode { self.new.mode ≡ self.old.mode }
+        ensures falls { (p : Place) → weight q < weight p → weight (place_of result) < weight p }
+        ensures told { IfOk result (λ r. Appends (E.contents self.old.to.now) (E.contents self.new.to.now) (name_of self.old.mode ++ take n out.now) × (r ≡ q)) }
+    {
+        let named = self.to.write_all(name(self.mode));
+        let done = self.to.write_all(&out[..n]);
+        let after = self.written(q, done)?;
+        match named {
+            Ok(()) => Ok(after),
+            Err(_) => Err(after),
+        }
+    }
+}
+
+// Reads behind the first n bytes. A read that fails is told, and ends the run.
+fn read_more<R: Read, E: Write>(
     input: &mut R,
-    errors: &mut E,
+    teller: &mut Teller<'_, E>,
     q: Place,
     n: usize,
     buf: &mut [u8],
 ) -> Stand
     requires { n < length buf.old }
+    ensures mode { teller.new.mode ≡ teller.old.mode }
     ensures falls { (p : Place) (old text : List ℕ) → Falls p old text (ask.Read q n) → weight (place_of result) < weight p }
     ensures took { IfOk result (λ r. IfSome (R.remaining input.old)
         (λ xs. TookPart q n buf.old buf.new xs (R.remaining input.new) r)) }
@@ -78,57 +122,27 @@ fn read_more<R: Read, E: Write>(
     match input.read(&mut buf[n..]) {
         Ok(k) => Ok(q.took(k, buf)),
         Err(e) => {
-            fail(mode, errors, b"standard input", &e);
+            teller.fail(b"standard input", &e);
             Err(q.over())
         }
     }
 }
 
-// Where a run stands when a text was written, or not. What could not be written is told on standard error, and ends the run.
-fn written<E: Write>(mode: Mode, errors: &mut E, q: Place, done: io::Result<()>) -> Stand
-    ensures falls { (p : Place) → weight q < weight p → weight (place_of result) < weight p }
-    ensures ok { IfOk result (λ r. IsOk done × (r ≡ q)) }
-    ensures same { IsOk done → errors.new ≡ errors.old }
-{
-    match done {
-        Ok(()) => Ok(q.wrote(true)),
-        Err(e) => {
-            fail(mode, errors, b"standard output", &e);
-            Err(q.wrote(false))
-        }
-    }
-}
-
-// Writes the first n bytes. A write that fails is told on standard error, and ends the run.
+// Writes the first n bytes. A write that fails is told, and ends the run.
 fn write_out<W: Write, E: Write>(
-    mode: Mode,
     output: &mut W,
-    errors: &mut E,
+    teller: &mut Teller<'_, E>,
     q: Place,
     n: usize,
     out: &[u8],
 ) -> Stand
     requires { n ≤ length out.now }
+    ensures mode { teller.new.mode ≡ teller.old.mode }
     ensures falls { (p : Place) → weight q < weight p → weight (place_of result) < weight p }
     ensures wrote { IfOk result (λ r. Appends (W.contents output.old) (W.contents output.new) (take n out.now) × (r ≡ q)) }
 {
     let done = output.write_all(&out[..n]);
-    written(mode, errors, q, done)
-}
-
-// Tells the first n bytes on standard error, behind the program's name.
-fn tell<E: Write>(mode: Mode, errors: &mut E, q: Place, n: usize, out: &[u8]) -> Stand
-    requires { n ≤ length out.now }
-    ensures falls { (p : Place) → weight q < weight p → weight (place_of result) < weight p }
-    ensures told { IfOk result (λ r. Appends (E.contents errors.old) (E.contents errors.new) (name_of mode ++ take n out.now) × (r ≡ q)) }
-{
-    let named = errors.write_all(name(mode));
-    let done = errors.write_all(&out[..n]);
-    let after = written(mode, errors, q, done)?;
-    match named {
-        Ok(()) => Ok(after),
-        Err(_) => Err(after),
-    }
+    teller.written(q, done)
 }
 
 // The whole program, by a reading. Answers whether all was read and written; then what was written is the log of the input.
@@ -144,14 +158,15 @@ pub fn log_input<R: Read, W: Write, E: Write>(
         IfSome (R.remaining input.old) (λ xs. length xs ≤ most →
         IfSome (W.contents output.old) (λ ys. Logged mode (length buf.old) xs ys (W.contents output.new))) }
 {
+    let mut teller = Teller { mode, to: errors };
     let mut whole = true;
     let mut p = Place::start(mode);
     loop {
         let after = match machine::step(p, buf, out) {
             Ask::Closed => return whole,
-            Ask::Write(q, n) => write_out(mode, output, errors, q, n, out),
-            Ask::Tell(q, n) => tell(mode, errors, q, n, out),
-            Ask::Read(q, n) => read_more(mode, input, errors, q, n, buf),
+            Ask::Write(q, n) => write_out(output, &mut teller, q, n, out),
+            Ask::Tell(q, n) => teller.tell(q, n, out),
+            Ask::Read(q, n) => read_more(input, &mut teller, q, n, buf),
         };
         p = match after {
             Ok(q) => q,
@@ -161,6 +176,22 @@ pub fn log_input<R: Read, W: Write, E: Write>(
             }
         };
     }
+}
+
+// The same in buffers of 32,768 bytes, as the log programs have them.
+// Kept: (a) no heap: the memory is fixed, refilled and passed in parts.
+pub fn run<R: Read, W: Write, E: Write>(
+    mode: Mode,
+    input: &mut R,
+    output: &mut W,
+    errors: &mut E,
+) -> bool
+    ensures { IsTrue result → IfSome (R.remaining input.old) (λ xs. length xs ≤ most →
+        IfSome (W.contents output.old) (λ ys. Logged mode 32768 xs ys (W.contents output.new))) }
+{
+    let mut buf = [0u8; 32768];
+    let mut out = [0u8; 32768];
+    log_input(mode, input, output, errors, &mut buf, &mut out)
 }
 
 #[cfg(test)]

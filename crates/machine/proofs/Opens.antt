@@ -1,10 +1,9 @@
 -- What an answer of Open says of the reading.
-use mathlib.Core.Path.{◌≡◌, refl, sym, ap, ap₂, ◌∙◌, subst}
+use mathlib.Core.Path.{◌≡◌, refl, sym, ap, ap₂, ◌∙◌}
 use mathlib.Core.Bool.{Bool}
 use mathlib.Core.Logic.{◌⊎◌, inl, inr}
 use mathlib.Core.List.{List}
-use Prim.Native.Nat.{ℕ, ◌+◌, ◌≤◌}
-use native.Mathlib.Omega.{arith}
+use Prim.Native.Nat.{ℕ, ◌+◌}
 use lib.ListN.{length}
 use Rattle.rules.specs.Rule.{Read, got, stops, read, map_read}
 use Rattle.rules.proofs.Laws.{got≢stops}
@@ -13,8 +12,6 @@ use Rattle.error.specs.declared.Refusal.{Refusal}
 use Rattle.error.specs.declared.Stopped.{Stopped}
 use Rattle.error.specs.declared.Stopped.TheVariants.{Refused, Finished, MoreBytes}
 use Rattle.metadata.specs.Metadata.{Header}
-use Rattle.metadata.specs.declared.ChemstationMetadata.{ChemstationMetadata}
-use Rattle.streams.specs.declared.State.{State}
 use Rattle.streams.specs.declared.Mode.{Mode}
 use Rattle.opening.specs.Opening.{start_read, says_read}
 use Rattle.modes.specs.Modes.{open_by, begins_by, OpensBy}

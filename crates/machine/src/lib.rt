@@ -61,7 +61,8 @@ fn log_hand(st: State, p: Place, buf: &mut [u8], out: &mut [u8]) -> Ask
 }
 
 // The total before the first record: an array's values are not added up.
-// Kept: (d) a kind is any number until the run is opened: an enum would have to be made of it first, and 6 is named once.
+// Kept: (d) the number, since the log's definition is over it: by the state that was opened it would be as short, and want a lemma that
+// kind 6 alone opens an array.
 fn first_total(kind: u8) -> Total
     ensures { result ≡ first_total kind }
 {
@@ -101,6 +102,7 @@ fn in_bounds(p: Place, buf: &[u8], out: &[u8]) -> bool
 }
 
 // One step of a run: what it asks for, and where it stands then. A place that lies outside the buffers is closed.
+// Kept: (d) it goes by a match on the phase, an enum of this program: see `Phase`.
 pub fn step(p: Place, buf: &mut [u8], out: &mut [u8]) -> Ask
     ensures { IsStep (step_of p buf.old out.old) result buf.new out.new }
 {

@@ -1,12 +1,12 @@
--- What is known of a header that was opened: its kind, the bytes that say its description, an array's size; and no header is 'finished'.
+-- What is known of a header that was opened: the bytes that say its description; and no header is 'finished'.
 use mathlib.Core.Path.{◌≡◌, refl, sym, ap, ◌∙◌}
-use mathlib.Core.Bool.{Bool, true, false, and-eq-true_iff}
+use mathlib.Core.Bool.{Bool, true, false}
 use mathlib.Core.List.{List, [], ◌∷◌}
 use Prim.Native.Nat.{ℕ, zero, suc, ◌≤◌, ◌<◌}
 use native.Mathlib.Omega.{arith}
 use lib.Dec.{leb, eqb}
 use lib.ListN.{length, get_or, take}
-use borrow.Author.Tests.{leb-true, eqb-false}
+use borrow.Author.Tests.{leb-true}
 use Rattle.std.specs.Prelude.{Option, Some, None, Result, Ok, Err}
 use Rattle.rules.specs.Rule.{gives, finished, got, stops, read}
 use Rattle.error.specs.Number.{stop_of}
@@ -14,7 +14,7 @@ use Rattle.error.specs.declared.Stopped.{Stopped}
 use Rattle.common.specs.Bytes.{be, part}
 use Rattle.floats.specs.Doubles.{scan_count_of}
 use Rattle.trim.specs.declared.Extent.{Extent}
-use Rattle.agilent.specs.Header.{known, header_rule}
+use Rattle.agilent.specs.Header.{header_rule}
 use Rattle.layouts.specs.Table.{Entry, look, minima, texts, field_of}
 use Rattle.pascal.specs.Texts.{Place, trimmed_from, pascal, text_rule, reach}
 use Rattle.metadata.specs.Metadata.{starts_of, lengths_of, texts_rule, described_by, metadata_rule, count_rule, quotient_of, array_scans, scans_rule, Header, after_bytes, open_rule, header_read}
@@ -22,7 +22,7 @@ use Rattle.pascal.specs.declared.TextField.{TextField}
 use Rattle.pascal.specs.declared.TextField.TheVariants.{Absent, Pascal, PascalToEnd, Utf16}
 use Rattle.metadata.specs.declared.ChemstationMetadata.{ChemstationMetadata}
 use Rattle.metadata.specs.declared.OpenedHeader.{OpenedHeader}
-use Rattle.metadata.proofs.Orderly.{Orderly, giving, refusing, asking, Any, proper, outcome, itself, next, then, tested, checked}
+use Rattle.metadata.proofs.Orderly.{Orderly, giving, refusing, asking, Any, proper, outcome, itself, next, then, either, tested, checked}
 use Rattle.layouts.proofs.Tables.{field_lies}
 
 -- ---- the description: what holds of each text holds of the eight
@@ -65,33 +65,29 @@ any_text h (Utf16 start) = giving tt
 
 -- ---- the rule of Open
 
-count : {fields : Bool} {Q : Type 0} → Q → (x : Option ℕ) → Orderly fields (λ _. Q) (count_rule x)
-count q None = refusing
-count q (Some n) = giving q
+count : {fields : Bool} (x : Option ℕ) → Orderly fields Any (count_rule x)
+count None = refusing
+count (Some n) = giving tt
 
-scans_by_lem : {fields : Bool} (b : Bool) (kind : ℕ) (d : ChemstationMetadata) (h : List ℕ) → eqb kind 6 ≡ b → Orderly fields (λ _. kind ≡ 6 → 4126 ≤ length h) (scans_rule kind d h)
+scans_by_lem : {fields : Bool} (kind : ℕ) (d : ChemstationMetadata) (h : List ℕ) → Orderly fields Any (scans_rule kind d h)
 unfolding array_scans
-scans_by_lem true kind d h e = rw e (next (tested (leb 4126 (length h)) 9) λ _ l. count (λ _. leb-true 4126 (length h) l) (scan_count_of (quotient_of d h)))
-scans_by_lem false kind d h e = rw e (giving λ six. absurd (eqb-false kind 6 e six))
+scans_by_lem kind d h = either (eqb kind 6) (then (search checked) λ _. count (scan_count_of (quotient_of d h))) (giving tt)
 
-header : (kind : ℕ) → Orderly true (λ _. known kind ≡ true) (header_rule kind)
+header : (kind : ℕ) → Orderly true Any (header_rule kind)
 unfolding header_rule
 header kind =
-    next (tested (known kind) 1) λ _ e. then (asking refl λ b. giving tt) λ begin. then (search checked) λ _. then (search checked) λ _.
-    then (search checked) λ _. then (asking refl λ b. giving tt) λ rest. giving e
+    then (search checked) λ _. then (asking refl λ b. giving tt) λ begin. then (search checked) λ _. then (search checked) λ _.
+    then (search checked) λ _. then (asking refl λ b. giving tt) λ rest. giving tt
 
--- what holds of a header x of a kind that was opened
-pub record Fit (kind : ℕ) (x : Header) : Type 0 where
-  pub low : 1 ≤ kind
-  pub high : kind ≤ 6
+-- what holds of a header x that was opened
+pub record Fit (x : Header) : Type 0 where
   pub described : metadata_rule x.bytes ≡ gives x.says
-  pub step : kind ≡ 6 → 4126 ≤ length x.bytes
 
-opening : (kind : ℕ) → Orderly true (Fit kind) (open_rule kind)
+opening : (kind : ℕ) → Orderly true Fit (open_rule kind)
 unfolding open_rule
 opening kind =
-    next (header kind) λ h e. next (itself (metadata_orderly h (λ f p. Unit) (λ f _. any_text h f) tt)) λ d q. next (scans_by_lem (eqb kind 6) kind d h refl) λ n l.
-    let k = (and-eq-true_iff (leb 1 kind) (leb kind 6)).0 e in giving (record { low = leb-true 1 kind k.0; high = leb-true kind 6 k.1; described = q; step = l })
+    then (header kind) λ h. next (itself (metadata_orderly h (λ f p. Unit) (λ f _. any_text h f) tt)) λ d q. then (scans_by_lem kind d h) λ n.
+    giving (record { described = q })
 
 -- ---- the size that a description says
 
@@ -105,7 +101,7 @@ unfolding metadata_rule described_by
 sized h = then (search checked) λ _. then (search checked) λ _. then (any_texts (be (part 248 4 h)) h texts) λ ps. giving refl
 
 pub says_size : (kind : ℕ) (h : List ℕ) {x : Header} → after_bytes kind h ≡ gives x → x.says.size ≡ length h
-says_size kind h e = outcome (λ (x : Header). x.says.size ≡ length h) (next (sized h) λ d q. next (scans_by_lem (eqb kind 6) kind d h refl) λ n l. giving q) e
+says_size kind h e = outcome (λ (x : Header). x.says.size ≡ length h) (next (sized h) λ d q. then (scans_by_lem kind d h) λ n. giving q) e
 
 -- ---- what the answer says
 
@@ -115,7 +111,7 @@ module _ (last : Bool) (kind : ℕ) (s : List ℕ) (r : Result OpenedHeader Stop
     read_stopped = sym o ∙ ap (header_read s) e
 
     pub never_finished : ¬ (stop_of z ≡ finished)
-    never_finished = rw read_stopped at (proper (Fit kind) (opening kind) last s)
+    never_finished = rw read_stopped at (proper Fit (opening kind) last s)
 
   module _ {x : OpenedHeader} (e : r ≡ Ok x) where
     abbrev pub header_read_lem : Header
@@ -124,5 +120,5 @@ module _ (last : Bool) (kind : ℕ) (s : List ℕ) (r : Result OpenedHeader Stop
     pub read_opened : read last (open_rule kind) s ≡ got header_read_lem x.metadata.size
     read_opened = sym o ∙ ap (header_read s) e
 
-    pub fits : Fit kind header_read_lem × (x.metadata.size ≤ length s)
-    fits = rw read_opened at (proper (Fit kind) (opening kind) last s)
+    pub fits : Fit header_read_lem × (x.metadata.size ≤ length s)
+    fits = rw read_opened at (proper Fit (opening kind) last s)

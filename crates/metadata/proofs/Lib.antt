@@ -1,3 +1,4 @@
+pub mod Constants
 pub mod Gathers
 pub mod Opens
 pub mod Orderly

@@ -1,6 +1,6 @@
 -- Open: the header's bytes, then what is left of its rule, by the tests that code makes.
 use mathlib.Core.Path.{◌≡◌, refl, sym, ap, ◌∙◌}
-use mathlib.Core.Bool.{Bool}
+use mathlib.Core.Bool.{Bool, false}
 use mathlib.Core.List.{List}
 use mathlib.Core.Logic.{◌⊎◌, inl, inr}
 use Prim.Native.Nat.{ℕ, ◌≤◌, ◌<◌}
@@ -14,10 +14,11 @@ use Rattle.rules.proofs.Laws.{read_then, read_then_lem}
 use Rattle.rules.proofs.Places.{at_gives}
 use Rattle.common.specs.Bytes.{be, part}
 use Rattle.floats.specs.Doubles.{double, scan_count_of}
-use Rattle.agilent.specs.Header.{header_rule, kind_number}
+use Rattle.agilent.specs.Header.{known, header_rule, kind_number}
 use Rattle.agilent.specs.declared.Kind.{Kind}
 use Rattle.agilent.specs.declared.Kind.TheVariants.{Fid, Ms, Mwd, Dad, Uv}
 use Rattle.agilent.proofs.Checks.{passes, fails}
+use Rattle.agilent.proofs.HeaderLaws.{size_unknown, header_stops}
 use Rattle.layouts.specs.Table.{look, minima, texts}
 use Rattle.metadata.specs.Metadata.{texts_rule, described_by, described_rule, metadata_rule, step_of, quotient_of, count_rule, array_scans, Header, after_description, after_bytes, open_rule}
 use Rattle.metadata.specs.declared.ChemstationMetadata.{ChemstationMetadata}
@@ -86,6 +87,9 @@ module _ {kind : Kind} (d : ChemstationMetadata) (h : List ℕ) where
 pub open_reads : (kind : ℕ) (last : Bool) (s : List ℕ) {x : Read (List ℕ)} → read last (header_rule kind) s ≡ x → read last (open_rule kind) s ≡ read_then last s (after_bytes kind) x
 unfolding open_rule
 open_reads kind last s e = read_then_lem last (header_rule kind) (after_bytes kind) s ∙ ap (read_then last s (after_bytes kind)) e
+
+pub open_unknown : (kind : ℕ) (last : Bool) (s : List ℕ) → known kind ≡ false → read last (open_rule kind) s ≡ stops (refused 1)
+open_unknown kind last s e = open_reads kind last s (header_stops kind last s _ (sym (size_unknown kind last s e)))
 
 -- of a header that is read, what is left of the rule decides
 module _ (kind : ℕ) (last : Bool) (s : List ℕ) (n : ℕ) (q : read last (header_rule kind) s ≡ got (take n s) n) where

@@ -11,14 +11,14 @@ ghost use Rattle.layouts.specs.declared.Clock.TheVariants.{Nowhere};
 ghost use Rattle.metadata.specs.Metadata.{time_at, double_at, described_by, described_rule, metadata_rule, step_of, after_description, after_bytes, open_rule, header_read};
 ghost use Rattle.metadata.specs.Remaining.{header_of};
 
-use agilent::{Kind, read_agilent_header};
+use agilent::{Kind, read_agilent_header_of};
 use common::Number;
 use error::{Refusal, Stopped};
 use floats::{FromPattern, minutes_of, scan_count};
 use layouts::{Clock, Edition};
 use pascal::text_place;
 
-#[derive(Clone, Copy)]
+#[derive(Clone, Copy, Debug, PartialEq)]
 pub struct ChemstationMetadata {
     pub edition: u32,
     pub size: usize,
@@ -31,13 +31,15 @@ pub struct ChemstationMetadata {
     pub offset_correction: f64,
     pub mult_correction: f64,
     // in bytes from the header's first, after trimming; 0, 0 for an empty text
-    // Kept: two arrays of eight numbers, since a rule of the project fixes this form, and the C interface lends both.
+    // Kept: two arrays of eight numbers, since a rule of the project fixes this form, and the C interface lends both. (a)
     pub text_starts: [usize; 8],
     pub text_lengths: [usize; 8],
 }
 
 // A header that was opened: what it says, the scans due (0 for FID and MWD), and an array's minutes a record (0.0 for the other kinds).
-#[derive(Clone, Copy)]
+// Kept: both numbers for every kind, as the definition of Open gives them. An enum of what is due would be matched beside the kind
+// where a run begins, with cases there that no kind has. (d)
+#[derive(Clone, Copy, Debug, PartialEq)]
 pub struct OpenedHeader {
     pub scans: usize,
     pub time_step: f64,
@@ -57,6 +59,7 @@ struct WholeHeader<'a> {
 
 impl WholeHeader<'_> {
     // The start or the end of the run, in minutes.
+    #[tactic(auto, using(crate::proofs::Constants::zero_is))]
     fn time_at(&self, at: usize) -> f64
         requires { at + 4 ≤ 512 }
         ensures { result ≡ time_at (look Nowhere clocks (edition_number self.now.edition)) at self.now.bytes.now }
@@ -73,13 +76,11 @@ impl WholeHeader<'_> {
         requires { IfSome at (λ n. n + 8 ≤ length self.now.bytes.now) }
         ensures { (n : ℕ) → at ≡ stored n → result ≡ double_at n other self.now.bytes.now }
     {
-        match at {
-            Some(at) => f64::from_pattern(u64::be_at(self.bytes, at)),
-            None => other,
-        }
+        at.map_or(other, |at| f64::from_pattern(u64::be_at(self.bytes, at)))
     }
 
     // What it says, if its texts stand at these places.
+    #[tactic(auto, using(crate::proofs::Constants::zero_is, crate::proofs::Constants::one_is), unfolding(crate::specs::Metadata::described_by))]
     fn described(&self, text_starts: [usize; 8], text_lengths: [usize; 8]) -> ChemstationMetadata
         ensures { result ≡ described_by (edition_number self.now.edition) self.now.bytes.now text_starts text_lengths }
     {
@@ -99,6 +100,7 @@ impl WholeHeader<'_> {
     }
 
     // Finds its texts in the order of their numbers, then describes it.
+    #[tactic(auto, using(crate::proofs::Gathers::all, crate::proofs::Opens::texts_found))]
     fn describe(&self) -> Result<ChemstationMetadata, Refusal>
         ensures { outcome (λ d. d) result ≡ described_rule (edition_number self.now.edition) self.now.bytes.now }
     {
@@ -114,6 +116,9 @@ impl WholeHeader<'_> {
 }
 
 // What a header says.
+// Kept: the 512 bytes as a `requires`, here and in `from_header`. Each is called once, and a struct that carries the fact would be
+// made in `open_header_of` and taken apart in both. (d)
+#[tactic(auto, using(std::proofs::lemmas::Result::err_from_is_err_and, layouts::proofs::Tables::no_minimum, crate::proofs::Opens::edition_unknown, crate::proofs::Opens::below_minimum, crate::proofs::Opens::past_minimum))]
 fn metadata_of(h: &[u8]) -> Result<ChemstationMetadata, Refusal>
     requires { 512 ≤ length h.now }
     ensures { outcome (λ d. d) result ≡ metadata_rule h.now }
@@ -138,6 +143,7 @@ fn time_step(h: &[u8]) -> f64
 }
 
 // Opens an array's header h that says so.
+#[tactic(auto, using(crate::proofs::Opens::array_small))]
 fn open_array(metadata: ChemstationMetadata, h: &[u8]) -> Result<OpenedHeader, Refusal>
     ensures { outcome (header_of h.now) result ≡ after_description 6 h.now metadata }
 {
@@ -155,6 +161,7 @@ fn open_array(metadata: ChemstationMetadata, h: &[u8]) -> Result<OpenedHeader, R
 }
 
 // Opens a whole header.
+#[tactic(auto, using(std::proofs::lemmas::Result::err_from_is_err_and, crate::proofs::Opens::not_described))]
 fn from_header(kind: Kind, h: &[u8]) -> Result<OpenedHeader, Refusal>
     requires { 512 ≤ length h.now }
     ensures { outcome (header_of h.now) result ≡ after_bytes (kind_number kind) h.now }
@@ -172,12 +179,20 @@ fn from_header(kind: Kind, h: &[u8]) -> Result<OpenedHeader, Refusal>
     })
 }
 
-// Opens a run as far as its header goes: the description, the scans due and an array's time step.
+// Opens a run of a kind as far as its header goes: the description, the scans due and an array's time step.
+#[tactic(auto, using(std::proofs::lemmas::Result::err_from_is_err_and, agilent::proofs::HeaderLaws::header_gives, crate::proofs::Opens::open_refused))]
+pub fn open_header_of(kind: Kind, s: &[u8], last: bool) -> Result<OpenedHeader, Stopped>
+    ensures { header_read s.now result ≡ read last (open_rule (kind_number kind)) s.now }
+{
+    let size = read_agilent_header_of(kind, s, last)?;
+    let opened = from_header(kind, &s[..size])?;
+    Ok(opened)
+}
+
+// The same by the kind's number.
+#[tactic(auto, using(std::proofs::lemmas::Result::err_from_is_err_and, crate::proofs::Opens::open_unknown))]
 pub fn open_header(kind: u8, s: &[u8], last: bool) -> Result<OpenedHeader, Stopped>
     ensures { header_read s.now result ≡ read last (open_rule kind) s.now }
 {
-    let known = Kind::try_from(kind)?;
-    let size = read_agilent_header(kind, s, last)?;
-    let opened = from_header(known, &s[0..size])?;
-    Ok(opened)
+    open_header_of(Kind::try_from(kind)?, s, last)
 }

@@ -1,16 +1,15 @@
 -- What Open by the atlas reading answers, by the kind and by what Open answers; and a header that was opened by either reading.
-use mathlib.Core.Path.{◌≡◌, refl, sym, ap, ◌∙◌, subst}
+use mathlib.Core.Path.{◌≡◌, refl, sym, ap, ◌∙◌}
 use mathlib.Core.Bool.{Bool, true, false}
 use mathlib.Core.List.{List}
 use Prim.Native.Nat.{ℕ}
-use Rattle.rules.specs.Rule.{Rule, refuses, Read, got, stops, read, map_read, map_rule, ◌>>=◌}
+use Rattle.rules.specs.Rule.{refuses, Read, got, stops, read, map_read, map_rule, ◌>>=◌}
 use Rattle.rules.proofs.Laws.{read_map}
 use Rattle.error.specs.Number.{number_of}
 use Rattle.error.specs.declared.Refusal.{Refusal}
 use Rattle.agilent.specs.Header.{known}
 use Rattle.metadata.specs.Metadata.{Header, open_rule}
 use Rattle.streams.specs.Next.{atlas_of}
-use Rattle.streams.specs.declared.State.{State}
 use Rattle.streams.specs.declared.Mode.{Mode}
 use Rattle.streams.specs.declared.Mode.TheVariants.{Plain, Atlas}
 use Rattle.opening.specs.Opening.{begins, start_read, says_read, OpensRun}
@@ -18,8 +17,8 @@ use Rattle.std.specs.Prelude.{Result, Ok, Err}
 use Rattle.error.specs.declared.Stopped.{Stopped}
 use Rattle.error.specs.declared.Stopped.TheVariants.{Refused}
 use Rattle.opening.specs.declared.OpenedRun.{OpenedRun}
-use Rattle.opening.proofs.HeaderOpens.{state_by_lem, says_by_lem}
-use Rattle.modes.specs.Modes.{has_atlas, open_by, begins_by, start_by, says_by, OpensBy}
+use Rattle.opening.proofs.HeaderOpens.{state_by_lem}
+use Rattle.modes.specs.Modes.{has_atlas, open_by, begins_by, OpensBy}
 
 module _ (kind : ℕ) where
   pub no_kind : known kind ≡ false → open_by Atlas kind ≡ refuses 1

@@ -1,6 +1,6 @@
 -- Open by a reading (request 5): 'A separate opening starts an atlas reading under that rule, for DAD and UV only.'
 use Rattle.std.specs.Prelude.{◌≡◌, Bool, ◌||◌, List, ℕ, eqb, Result}
-use Rattle.rules.specs.Rule.{Rule, read, map_rule, ◌>>=◌, ◌>>◌}
+use Rattle.rules.specs.Rule.{Rule, read, map_rule, ◌>>◌}
 use Rattle.agilent.specs.Header.{check, known}
 use Rattle.metadata.specs.Metadata.{Header, open_rule}
 use Rattle.metadata.specs.declared.ChemstationMetadata.{ChemstationMetadata}

@@ -1,14 +1,14 @@
 -- MS: what its rules read from a position on, by the bytes that are there.
-use mathlib.Core.Path.{◌≡◌, ◌∙◌}
+use mathlib.Core.Path.{◌≡◌, refl, sym, ◌∙◌}
 use mathlib.Core.Bool.{Bool, cond}
 use mathlib.Core.List.{List, [], ◌∷◌}
 use Prim.Native.Nat.{ℕ, zero, suc, ◌+◌, ◌-◌, ◌*◌, ◌/◌, ◌%◌, ◌^◌, ◌≤◌, ◌<◌}
 use native.Mathlib.Omega.{arith}
 use lib.Dec.{eqb, ltb}
-use lib.Ieee.{Float}
+use lib.Ieee.{Float, binary64, of_int, of_bits}
 use lib.ListN.{length}
 use borrow.Author.Tests.{eq-eqb, ne_eqb, lt-ltb, le-ltb}
-use Rattle.rules.specs.Rule.{Rule, gives, refuses, refused, finished, got, stops, read, read_at, ◌>>=◌, ◌>>◌, skip}
+use Rattle.rules.specs.Rule.{Rule, Read, gives, refuses, refused, finished, got, stops, read, read_at, ◌>>=◌, ◌>>◌, skip}
 use Rattle.rules.proofs.Places.{at_number, at_gives, at_cut, more_number, none, cut}
 use Rattle.common.specs.Bytes.{be, part}
 use Rattle.common.specs.Fields.{u16, u32}
@@ -16,8 +16,12 @@ use Rattle.floats.specs.Doubles.{double, minutes}
 use Rattle.streams.specs.Told.{Told, told}
 use Rattle.streams.specs.declared.Scans.{Scans}
 use Rattle.streams.specs.declared.Points.{Points}
+use Rattle.streams.specs.declared.ChemstationMsState.{ChemstationMsState}
+use Rattle.streams.specs.declared.State.TheVariants.{Ms}
+use Rattle.streams.proofs.ScanningLaws.{scans_done, scan_new, scan_within}
+use Rattle.streams.proofs.Steps.{Answers}
 use Rattle.streams.proofs.UpTo.{number_to}
-use Rattle.ms.specs.Ms.{ms_made, ms_value, ms_point, ms_scans}
+use Rattle.ms.specs.Ms.{ms_made, ms_value, ms_point, ms_scans, ms_scanning, ms_rule}
 
 -- a shift by threes, of 14 bits in 32
 pub shifted : (base e : ℕ) → base < 16384 → e < 4 → base * 2 ^ (3 * e) % 2 ^ 32 ≡ base * 8 ^ e
@@ -26,6 +30,12 @@ shifted base (suc zero) b h = omega arith
 shifted base (suc (suc zero)) b h = omega arith
 shifted base (suc (suc (suc zero))) b h = omega arith
 shifted base (suc (suc (suc (suc e)))) b h = absurd (omega arith)
+
+-- ---- a constant, by its bit pattern
+
+pub twenty_is : of_bits binary64 4626322717216342016 ≡ double 20
+unfolding of_int of_bits
+twenty_is = refl
 
 -- ---- a point
 
@@ -105,7 +115,24 @@ module _ (left : ℕ) (due : 0 < left) (last : Bool) (at : ℕ) (s : List ℕ) w
       pub empty_cut : at + 2 ≤ length s → length s < at + 28 → read_at last (ms_scans left) at s ≡ stops (cut last)
       empty_cut h l = empty h ∙ at_cut (more_number 4 22 be _ λ time. more_number 12 10 _ _ λ x. more_number 10 0 _ _ λ y. none) last (at + 2) s h (omega arith)
 
-      pub empty_passed : at + 28 ≤ length s → read_at last (ms_scans left) at s ≡ read_at last (ms_scans (left - 1)) (at + 28) s
-      empty_passed h =
-          empty (omega arith) ∙ number_to last 4 be _ (at + 2) (at + 6) s (omega arith) (omega arith)
-          ∙ number_to last 12 _ _ (at + 6) (at + 18) s (omega arith) (omega arith) ∙ number_to last 10 _ _ (at + 18) (at + 28) s (omega arith) h
+      -- so many scans left at the place behind it
+      pub empty_passed : {n next : ℕ} → n ≡ left - 1 → next ≡ at + 28 → next ≤ length s → read_at last (ms_scans n) next s ≡ read_at last (ms_scans left) at s
+      empty_passed e f h =
+          rw (e, f)
+          (sym (empty (omega (arith, f, h)) ∙ number_to last 4 be _ (at + 2) (at + 6) s (omega arith) (omega (arith, f, h))
+          ∙ number_to last 12 _ _ (at + 6) (at + 18) s (omega arith) (omega (arith, f, h)) ∙ number_to last 10 _ _ (at + 18) (at + 28) s (omega arith) (omega (arith, f, h))))
+
+-- ---- the next record, by the counts that are due
+
+module _ (st : ChemstationMsState) (last : Bool) (s : List ℕ) where
+  abbrev Reads : Read Told → Type 0
+  Reads = Answers (Ms st) (ms_rule st) last s
+
+  pub none_left : st.n_scans_left.0 ≡ 0 → Reads (stops finished)
+  none_left e = scans_done (Ms st) (ms_scanning st) last s (eq-eqb _ _ e)
+
+  pub next_scan : (st.n_scans_left.0 ≡ 0 → ⊥) → st.n_mzs_left.0 ≡ 0 → Reads (read_at last (ms_scans st.n_scans_left.0) 0 s)
+  next_scan some e = scan_new (Ms st) (ms_scanning st) last s (ne_eqb _ _ some) e
+
+  pub next_point : (st.n_scans_left.0 ≡ 0 → ⊥) → (st.n_mzs_left.0 ≡ 0 → ⊥) → Reads (read_at last (ms_point st.n_scans_left st.n_mzs_left st.cur_time st.stored_time) 0 s)
+  next_point some due = scan_within (Ms st) (ms_scanning st) last s (ne_eqb _ _ some) due

@@ -8,7 +8,8 @@ use error::Refusal;
 use trim::{Extent, trim_utf8};
 
 // The field of a text.
-// Kept: `Absent` as a fourth case, since an `Option` of the three others would only add a second match.
+// Kept: `Absent` as a fourth case. The rule of a text has four, and so has the match on this; with an `Option` both would still have
+// four, and the tables of the editions would hold `Some` of each field that is there. (d)
 #[derive(Clone, Copy, Debug, PartialEq, Eq)]
 pub enum TextField {
     // the edition has no such text
@@ -36,6 +37,7 @@ fn get_utf16_pascal(h: &[u8], start: usize) -> Extent
     place_at(start + 1, 2 * usize::from(h[start]))
 }
 
+#[tactic(auto, using(std::proofs::lemmas::Result::err_from_is_err_and, crate::proofs::TextLaws::pascal_long, crate::proofs::TextLaws::pascal_trims))]
 fn get_pascal(h: &[u8], start: usize, width: usize) -> Result<Extent, Refusal>
     requires { (start < length h.now) × (start + width ≤ length h.now) }
     ensures { place_rule result ≡ pascal start width h.now }

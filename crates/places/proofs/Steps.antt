@@ -4,11 +4,11 @@ use mathlib.Core.Bool.{Bool, true, false, cond, ◌&&◌, ◌||◌, false≢true
 use mathlib.Core.List.{List, ◌++◌}
 use mathlib.Core.Logic.{◌⊎◌, inl, inr}
 use Prim.Native.Nat.{ℕ, zero, suc, ◌+◌, ◌-◌, ◌≤◌, ◌<◌}
-use native.Mathlib.Nat.{zero-add}
-use native.Mathlib.Numerals.{add-one}
+use native.Mathlib.Nat.{add-zero, zero-add}
 use native.Mathlib.Omega.{arith}
-use borrow.Author.Tests.{leb-true, lt-ltb, le-ltb, eq-eqb, ne_eqb}
-use lib.Dec.{eqb, leb}
+use borrow.Author.Tests.{leb-true, ltb-true, ltb-false, lt-ltb, le-ltb, eq-eqb, ne_eqb}
+use borrow.Table.Steps.{cases as by}
+use lib.Dec.{eqb, leb, ltb}
 use lib.ListN.{length, take, drop, length-drop}
 use lib.Seq.{length-take-le}
 use Rattle.digits.specs.Put.{Put}
@@ -21,7 +21,8 @@ use Rattle.error.specs.declared.Refusal.{Refusal}
 use Rattle.error.specs.declared.Stopped.{Stopped}
 use Rattle.error.specs.declared.Stopped.TheVariants.{Refused}
 use Rattle.reader.specs.Columns.{closing_of}
-use Rattle.std.specs.Prelude.{Result, Err}
+use Rattle.std.specs.Prelude.{Result, Err, Option, Some, None, MatchOption}
+use Rattle.std.specs.Option.{unwrap_or}
 use Rattle.sums.specs.Sums.{AnyTotal, total_from}
 use Rattle.runlog.specs.Runs.{lines_of, unscaled, logged, LoggedBy}
 use Rattle.runlog.proofs.Logs.{line_some, no_room, logged_got, logged_stops, read_inside, read_room, room_of}
@@ -103,13 +104,26 @@ end_so st bs = go (read false (rule st) bs) refl
 pub finished_so : (st : State) (bs : List ℕ) (c : Result (Unit {0}) Stopped) (b : Bool) → b ≡ is_end (closing_of c) → closing_of c ≡ (logged 70 false st bs).closing → b ≡ is_finished (read false (rule st) bs)
 finished_so st bs c b e f = e ∙ ap is_end f ∙ end_so st bs
 
--- the search for the fields that closed a run
-pub finished_here : (k n : ℕ) (st : State) (bs : List ℕ) → is_finished (read false (rule st) (take n bs)) ≡ true → finished_from k n st bs ≡ n
-finished_here zero n st bs e = refl
-finished_here (suc k) n st bs e = rw e refl
+-- the search for the fields that closed a run, from n bytes on
+module _ (st : State) (bs : List ℕ) where
+  abbrev pub Found : Bool → ℕ → Type 0
+  Found b n = is_finished (read false (rule st) (take n bs)) ≡ b
 
-pub finished_later : (m k n : ℕ) (st : State) (bs : List ℕ) → m ≡ k + 1 → is_finished (read false (rule st) (take n bs)) ≡ false → finished_from m n st bs ≡ finished_from k (n + 1) st bs
-finished_later m k n st bs h e = ap (λ j. finished_from j n st bs) (h ∙ add-one k) ∙ rw e refl
+  found_none : (k n : ℕ) → ((j : ℕ) → n ≤ j → j < n + k → Found false j) → n + k ≡ finished_from k n st bs
+  found_none zero n before = add-zero n
+  found_none (suc k) n before = rw (before n (omega arith) (omega arith)) (omega (arith, found_none k (n + 1) (λ j a b. before j (omega arith) (omega arith))))
+
+  found_at : (k n i : ℕ) → n ≤ i → i < n + k → Found true i → ((j : ℕ) → n ≤ j → j < i → Found false j) → i ≡ finished_from k n st bs
+  found_at zero n i low high ends before = absurd (omega arith)
+  found_at (suc k) n i low high ends before =
+      by (ltb n i)
+      (λ t. let later = ltb-true n i t in rw (before n (omega arith) later) (found_at k (n + 1) i (omega (arith, later)) (omega arith) ends (λ j a b. before j (omega arith) b)))
+      (λ t. let here : i ≡ n = omega (arith, ltb-false n i t) in rw (subst (Found true) here ends) here)
+
+  pub first_found : (r : Option ℕ) → MatchOption r ((j : ℕ) → 0 ≤ j → j < length bs → Found false j) (λ i. (0 ≤ i) × (i < length bs) × Found true i × ((j : ℕ) → 0 ≤ j → j < i → Found false j)) →
+      (unwrap_or r (length bs) ≡ closing_bytes st bs) × (unwrap_or r (length bs) ≤ length bs)
+  first_found None before = (sym (zero-add (length bs)) ∙ found_none (length bs) 0 (λ j a b. before j a (omega arith)), omega arith)
+  first_found (Some i) h = (found_at (length bs) 0 i h.0 (omega (arith, h.1)) h.2 h.3, omega (arith, h.1))
 
 -- a run closed with 0
 pub ends_as : (st : State) (p q : Place) (hand buf out : List ℕ) (due n : ℕ) → q ≡ moved_to p p.phase (p.from + n) p.to p.at p.count → due ≡ scan_left st → n ≡ closing_bytes st hand →

@@ -1,5 +1,5 @@
 -- The log program without input and output: what a run asks for at a place, and where it stands then. Document 01, 'The log program', and request 1.
-use Rattle.std.specs.Prelude.{ℕ, zero, suc, ◌+◌, ◌-◌, ◌≡◌, Bool, true, false, cond, ◌&&◌, ◌||◌, List, ◌++◌, eqb, leb, ltb, length, take, drop, get_or, Some, None, Ok, Err}
+use Rattle.std.specs.Prelude.{ℕ, zero, suc, ◌+◌, ◌-◌, ◌≡◌, Bool, true, false, cond, ◌&&◌, ◌||◌, List, ◌++◌, eqb, leb, ltb, length, take, drop, get_or, None}
 use Rattle.rules.specs.Rule.{Stop, refused, finished, more_bytes, Read, got, stops, read}
 use Rattle.rules.specs.Calls.{Answer, full, stopped, Reading}
 use Rattle.metadata.specs.Metadata.{Header}

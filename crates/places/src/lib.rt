@@ -15,11 +15,14 @@ use streams::{Mode, State};
 use sums::Total;
 
 // What a run does next.
+// Kept: (d) a step goes by a match on it: its cases carry what each step needs, and a closure or a trait's object in the place of each
+// would have to be stored in the place from step to step.
 #[derive(Clone, Copy)]
 pub enum Phase {
     // the digit is due, of a run that is opened by this reading
     Digit(Mode),
-    // the header of a run of this kind, any number: opening refuses those that are none
+    // the header of a run of this kind
+    // Kept: (d) any number: opening refuses those that are none, and a kind made of the digit here would have to keep that refusal.
     Header(Mode, u8),
     Records(State),
     // the log is closed with 0: so many bytes of the last scan were left, and so many of them are still due
@@ -30,8 +33,9 @@ pub enum Phase {
 }
 
 // Where a run stands.
-// Kept: (d) the buffers stay parameters beside it, and three facts of them stand in the contracts: a struct over lent buffers takes no
-// ghost field, which the borrow checker does not cover beside a `&mut`, so the facts would be named as often.
+// Kept: (d) the buffers stay parameters beside it, and facts of them in the contracts: a step takes any place and any buffers, and closes
+// what lies outside, so the facts are not the place's own; and each function asks for another one, two or three of the five, so that
+// no one struct of place and buffers with ghost fields would be all of theirs.
 #[derive(Clone, Copy)]
 pub struct Place {
     pub phase: Phase,
@@ -62,8 +66,9 @@ pub enum Ask {
     Closed,
 }
 
-// Whether a run is finished, whatever follows. The record loop is asked, so that the reader has one caller in the program, which
-// the compiler can then build into the loop.
+// Whether a run is finished, whatever follows.
+// Kept: (b) the record loop is asked, so that the reader has one caller in the program, which the compiler then builds into the loop: by
+// `next_record` itself here the log cost 51 to 88 instructions a record more.
 fn finished(st: State, s: &[u8]) -> bool
     ensures { result ≡ is_finished (read false (rule st) s.now) }
 {
@@ -80,12 +85,9 @@ fn finished(st: State, s: &[u8]) -> bool
 fn closing_bytes(st: State, s: &[u8]) -> usize
     ensures { (result ≡ closing_bytes st s.now) × (result ≤ length s.now) }
 {
-    for n in 0..s.len() {
-        if finished(st, &s[..n]) {
-            return n;
-        }
-    }
-    s.len()
+    (0..s.len())
+        .find(|n| finished(st, &s[..*n]))
+        .unwrap_or(s.len())
 }
 
 // The bytes of the last scan that a run leaves.
@@ -155,7 +157,7 @@ impl Place {
         if n == buf.len() {
             return self.close(Phase::Over, Stopped::MoreBytes, out);
         }
-        runlog::compact(buf, self.from, self.to);
+        buf.copy_within(self.from..self.to, 0);
         Ask::Read(
             Place {
                 from: 0,
@@ -180,6 +182,8 @@ impl Place {
     }
 
     // What is left is told, if anything is.
+    // Kept: (d) this and `tell_too_long` share a pen and an answer, one line each: a function over what is put would take a closure, and its
+    // contract would be longer than both.
     fn tell_left(self, scan: usize, behind: usize, out: &mut [u8]) -> Ask
         requires { 128 ≤ length out.old }
         ensures { (buf : List ℕ) → IsStep (tells_left scan behind self buf out.old) result buf out.new }
@@ -285,6 +289,7 @@ impl Place {
     }
 
     // Where a run stands when a read has given so many bytes.
+    #[tactic(auto, unfolding(crate::specs::Machine::took_of))]
     pub fn took(self, k: usize, buf: &[u8]) -> Place
         ensures { result ≡ took_of self k buf.now }
     {
@@ -324,6 +329,7 @@ impl Place {
     }
 
     // Where it stands when all was written, or not.
+    // Kept: (d) the flag is what the system answered, and the theorems about whole runs are over either answer.
     pub fn wrote(self, ok: bool) -> Place
         ensures { result ≡ wrote_of self ok }
     {

@@ -15,7 +15,7 @@ use Rattle.rules.proofs.Filling.{Filled, filled_start, filled_more, filled_stops
 use Rattle.chemstation.specs.Next.{rule}
 use Rattle.streams.specs.declared.State.{State}
 use Rattle.streams.specs.declared.Record.{Record}
-use Rattle.reader.specs.Columns.{row_of, Held, columns, equal_lengths, AreTheSame, Even, put_row, filled_with, columns_with, closing_of, FilledBy}
+use Rattle.reader.specs.Columns.{row_of, Held, equal_lengths, AreTheSame, Even, put_row, filled_with, columns_with, closing_of, FilledBy}
 use Rattle.reader.specs.declared.Columns.{Columns}
 use Rattle.reader.specs.declared.Row.{Row}
 use Rattle.std.specs.Prelude.{Result}

@@ -10,7 +10,7 @@ use error::{Refusal, Stopped};
 use streams::{Record, State};
 
 // A record as a row of six columns; a kind without an axis has 0.0 there, one without a stored time 0 in the last two.
-#[derive(Clone, Copy)]
+#[derive(Clone, Copy, Debug, PartialEq)]
 pub struct Row {
     pub time: f64,
     pub axis: f64,
@@ -65,7 +65,7 @@ impl From<Record> for Row {
 }
 
 // Six lent columns, a place in each for a record.
-// Kept: six slices in place of one of rows, since C has them column by column.
+// Kept: (a) six slices in place of one of rows: C has them column by column.
 #[derive(Drop)]
 pub struct Columns<'a> {
     pub time: &'a mut [f64],
@@ -114,6 +114,7 @@ pub struct Filled {
 }
 
 // Fills columns of one length.
+#[tactic(auto, using(chemstation::proofs::Answers::answered, rules::proofs::Laws::taken_within))]
 fn fill_equal(st: State, s: &[u8], last: bool, columns: &mut Columns<'_>) -> Filled
     requires { equal_lengths (held columns.old) ≡ true }
     ensures same { AreTheSame columns.old columns.new }
@@ -122,6 +123,9 @@ fn fill_equal(st: State, s: &[u8], last: bool, columns: &mut Columns<'_>) -> Fil
     let mut cur = st;
     let mut at: usize = 0;
     let n = columns.time.len();
+    // Kept: (d) an index: it is the place in all six columns and the count that is answered; six iterators side by side would be a nest of
+    // `zip`, and still want the count. And a loop beside runlog's: one for both would take a closure that puts a record and says whether there
+    // is room for the next, and answer what each answers now.
     for i in 0..n {
         match next_record(cur, &s[at..], last) {
             Err(z) => {
@@ -164,8 +168,8 @@ pub fn fill_columns(st: State, s: &[u8], last: bool, columns: &mut Columns<'_>) 
 }
 
 // The same over six slices.
-// Kept: C has them one by one; and the checker covers no struct that is made of parts of another's slices (tried with parts in the
-// struct, before it and behind a match).
+// Kept: (a) C has them one by one; and (c) the checker covers no struct that is made of parts of another's slices (tried with the parts in
+// the struct, taken before it, and behind a pattern).
 pub fn fill_slices(
     st: State,
     s: &[u8],
@@ -196,6 +200,7 @@ pub fn fill_slices(
 
 // Nothing is computed: told that the bytes are the last or not, Open, Next record and Fill columns differ only where a due
 // field ends past them. Cited by a contract, so that it cannot be left out.
+#[tactic(auto, using(rules::proofs::Last::told_last, rules::proofs::Last::same_to_end))]
 pub fn told_last()
     ensures { LastDiffers }
 {}

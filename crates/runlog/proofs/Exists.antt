@@ -1,13 +1,13 @@
 -- Every file has a log: a record takes a byte at least, so that the records of a file come to an end.
 use mathlib.Core.Path.{◌≡◌, refl}
-use mathlib.Core.Bool.{Bool, true, false}
-use mathlib.Core.List.{List, [], ◌∷◌, ◌++◌}
+use mathlib.Core.Bool.{true, false}
+use mathlib.Core.List.{List, [], ◌∷◌}
 use Prim.Native.Nat.{ℕ, zero, suc, ◌≤◌, ◌<◌}
 use native.Mathlib.Omega.{arith}
 use borrow.Table.Steps.{cases as by}
 use lib.Dec.{ltb}
 use lib.ListN.{length, take, drop, length-drop, length-take}
-use Rattle.rules.specs.Rule.{Rule, Stop, Read, got, stops, read}
+use Rattle.rules.specs.Rule.{Stop, Read, got, stops, read}
 use Rattle.rules.specs.Calls.{Item}
 use Rattle.rules.proofs.Laws.{taken_within}
 use Rattle.metadata.specs.Metadata.{Header}

@@ -1,6 +1,6 @@
 -- The record loop: what is read and put so far, and what is left to read.
-use mathlib.Core.Path.{◌≡◌, refl, sym, ap, ap₂, ◌∙◌, subst, subst₂}
-use mathlib.Core.Bool.{Bool, true, false, cond, false≢true}
+use mathlib.Core.Path.{◌≡◌, refl, sym, ap, ap₂, ◌∙◌, subst}
+use mathlib.Core.Bool.{Bool, cond, false≢true}
 use mathlib.Core.List.{List, [], ◌∷◌, ◌++◌, append_assoc, append-nil}
 use Prim.Native.Nat.{ℕ, zero, suc, ◌+◌, ◌-◌, ◌≤◌, ◌<◌}
 use native.Mathlib.Nat.{add-zero, add_assoc}
@@ -11,20 +11,19 @@ use lib.Dec.{ltb}
 use lib.ListN.{length, drop, length-append, length-drop}
 use lib.Seq.{drop-drop}
 use Rattle.rules.specs.Rule.{Stop, Read, got, stops, read}
-use Rattle.rules.specs.Calls.{Item, Answer, full, stopped, Reading, nothing, ahead}
+use Rattle.rules.specs.Calls.{Item, full, stopped, Reading, nothing, ahead}
 use Rattle.rules.proofs.Laws.{taken_within}
 use Rattle.chemstation.specs.Next.{rule}
 use Rattle.chemstation.proofs.Progress.{record_takes}
 use Rattle.streams.specs.declared.State.{State}
 use Rattle.streams.specs.declared.Record.{Record}
 use Rattle.streams.specs.declared.Record.TheVariants.{Trace, Mass, Spectrum}
-use Rattle.digits.specs.Put.{Puts}
+use Rattle.digits.specs.Put.{Put, Puts}
 use Rattle.digits.specs.declared.Pen.{Pen}
 use Rattle.lines.specs.Lines.{record_line}
 use Rattle.reader.specs.Columns.{closing_of}
 use Rattle.std.specs.Prelude.{Result}
 use Rattle.error.specs.declared.Stopped.{Stopped}
-use lib.Ieee.{Float}
 use Rattle.sums.specs.Sums.{AnyTotal, plus, total_from}
 use Rattle.tally.specs.Tally.{start_of}
 use Rattle.tally.specs.declared.Tally.{Tally}
@@ -140,6 +139,23 @@ total_more t (x ∷ rs) r = total_more (plus t (unscaled_of x)) rs r
 -- the total before, by the tally that it was put into
 pub logged_as : {g : Reading State Record} {first : ℕ} {p q : Pen} {s : Tally} {t : AnyTotal} {r : Logged} → s ≡ start_of t → LoggedBy g first p s.far r q → LoggedBy g first p t r q
 logged_as {g} {first} {p} {q} {r = r} e l = subst (λ (x : Tally). LoggedBy g first p x.far r q) e l
+
+-- the log put by a pen over the memory that another lends it
+pub logged_lent : {g : Reading State Record} {first : ℕ} {p q x y : Pen} {t : AnyTotal} {r : Logged} →
+    x.out.now ≡ p.out.now → x.at ≡ p.at → y.out.now ≡ q.out.now → y.at ≡ q.at → q.out.ghost_name ≡ p.out.ghost_name → LoggedBy g first x t r y → LoggedBy g first p t r q
+logged_lent {g} {p = p} {q} {x} {y} before from after to same l =
+    let lines = lines_of g.records in
+    let start = subst (λ old. Put lines x.at old y.at y.out.now) before l.put.put in
+    let begun = subst (λ a. Put lines a p.out.now y.at y.out.now) from start in
+    let ended = subst (λ new. Put lines p.at p.out.now y.at new) after begun in
+    record {
+      state = l.state;
+      from = l.from;
+      count = l.count;
+      closing = l.closing;
+      total = l.total;
+      put = record { put = subst (λ b. Put lines p.at p.out.now b q.out.now) to ended; same_reference = same };
+    }
 
 -- the room that a pen has
 abbrev pub room_of : Pen → ℕ

@@ -1,5 +1,5 @@
 -- The log of a file, read through a buffer: document 01, 'The log program', and request 1.
-use Rattle.std.specs.Prelude.{ℕ, ◌≤◌, ◌<◌, ◌≡◌, true, false, cond, List, [], ◌∷◌, ◌++◌, eqb, ltb, pos, length, take, drop, Some, None, Ok, Err}
+use Rattle.std.specs.Prelude.{ℕ, ◌≤◌, ◌<◌, ◌≡◌, true, false, cond, List, [], ◌∷◌, ◌++◌, eqb, ltb, pos, length, take, drop, Some, None, Ok}
 use Rattle.rules.specs.Rule.{Rule, Stop, more_bytes, Read, got, stops, read}
 use Rattle.rules.specs.Calls.{Item}
 use Rattle.metadata.specs.Metadata.{Header}

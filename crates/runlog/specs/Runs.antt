@@ -1,5 +1,5 @@
 -- What the record loop does: records read one behind the other while there is room for their lines.
-use Rattle.std.specs.Prelude.{ℕ, zero, suc, ◌+◌, ◌-◌, ◌≤◌, ◌≡◌, Bool, cond, List, [], ◌∷◌, ◌++◌, map, ltb, length, drop, Float}
+use Rattle.std.specs.Prelude.{ℕ, zero, suc, ◌+◌, ◌-◌, ◌≡◌, Bool, cond, List, [], ◌∷◌, ◌++◌, map, ltb, length, drop, Float}
 use Rattle.rules.specs.Rule.{Read, got, stops, read}
 use Rattle.rules.specs.Calls.{Item, full, stopped, Reading, nothing, ahead}
 use Rattle.chemstation.specs.Next.{rule}

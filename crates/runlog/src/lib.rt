@@ -1,7 +1,7 @@
 // The loop that reads records and puts their lines, and the theorem that a file has one log.
 #![tactic(auto)]
 
-ghost use Rattle.std.specs.Prelude.{◌-◌, ◌≤◌, ◌≡◌, ◌++◌, length, take, drop};
+ghost use Rattle.std.specs.Prelude.{◌-◌, ◌≤◌, length, drop};
 ghost use Rattle.runlog.specs.Runs.{logged, LoggedBy};
 ghost use Rattle.runlog.specs.Log.{OneLog};
 
@@ -27,6 +27,7 @@ pub struct Logged {
 
 // Reads records from src at index from on, adds their unscaled values to the total and puts their lines by the pen, until its memory
 // has no room for a line or there is another answer than a record.
+// Kept: (a) a position beside the bytes: a public function, whose promise over any position stays.
 pub fn log_records(
     st: State,
     src: &[u8],
@@ -42,9 +43,17 @@ pub fn log_records(
     let mut f = from;
     let mut count: usize = 0;
     let mut sum = Tally::start(total);
-    while pen.out.len() - pen.at >= 70 {
+    // A pen of its own, which no byte that is put can change: so the compiler keeps its index in a register.
+    let mut own = Pen {
+        out: &mut *pen.out,
+        at: pen.at,
+    };
+    // Kept: (d) each turn takes as many bytes and puts as long a line as its record has, so no range counts the turns; the reader's loop of
+    // columns ends by their length, where this one ends by the room that is left, and both are over `next_record`.
+    while own.out.len() - own.at >= 70 {
         match chemstation::next_record(cur, &src[f..], last) {
             Err(z) => {
+                pen.at = own.at;
                 return Logged {
                     state: cur,
                     from: f,
@@ -55,13 +64,14 @@ pub fn log_records(
             }
             Ok(given) => {
                 sum = sum.add(given.record.unscaled());
-                lines::put_record(pen, given.record);
+                lines::put_record(&mut own, given.record);
                 cur = given.state;
                 f += given.bytes;
                 count += 1;
             }
         }
     }
+    pen.at = own.at;
     Logged {
         state: cur,
         from: f,
@@ -69,15 +79,6 @@ pub fn log_records(
         total: sum.total(),
         closing: Ok(()),
     }
-}
-
-// Moves the bytes of buf from one index up to another to its start, and answers how many they are.
-pub fn compact(buf: &mut [u8], from: usize, to: usize) -> usize
-    requires { (from ≤ to) × (to ≤ length buf.old) }
-    ensures { (result ≡ to - from) × (buf.new ≡ take result (drop from buf.old) ++ drop result buf.old) }
-{
-    buf.copy_within(from..to, 0);
-    to - from
 }
 
 // Nothing to compute: the contract is the theorem that every file has one log, and what the buffer's size is to it.

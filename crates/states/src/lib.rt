@@ -13,8 +13,8 @@ use streams::{
 };
 
 // A state as numbers. Those of DAD and UV differ between the readings by the reading alone.
-// Kept: numbers for the kind and the reading, since C keeps them and may hand back any.
-#[derive(Clone, Copy)]
+// Kept: numbers for the kind, the record type and the reading (a): C keeps them between its calls and may hand back any.
+#[derive(Clone, Copy, Debug, PartialEq)]
 pub struct Stored {
     // time, intensity, slope or wavelength, step, multiplier, offset; 0 where the kind has no such number
     pub numbers: [f64; 6],
@@ -294,6 +294,7 @@ fn atlas_kept(plain: Option<State>) -> Option<State>
 }
 
 // Nothing to compute: the contract is that a state which is stored and taken back is the same.
+#[tactic(auto, using(crate::proofs::States::keeps_states))]
 pub fn kept_state()
     ensures { KeepsStates }
 {}

@@ -13,17 +13,19 @@ use common::{Endian, Number};
 use error::Stopped;
 
 // Counts still due, never one for another.
-#[derive(Clone, Copy)]
+#[derive(Clone, Copy, Debug, PartialEq, Eq)]
 pub struct Scans(pub usize);
 
-#[derive(Clone, Copy)]
+#[derive(Clone, Copy, Debug, PartialEq, Eq)]
 pub struct Points(pub usize);
 
-#[derive(Clone, Copy)]
+#[derive(Clone, Copy, Debug, PartialEq, Eq)]
 pub struct Bytes(pub usize);
 
 // Times in minutes, wavelengths in nanometres. A point of a scan has the scan's stored time too, in whole minutes and the
 // milliseconds left over.
+// Kept: Mass and Spectrum as two cases (d): their fields differ by a name alone, but a mass-to-charge ratio is no wavelength, and with one
+// case a place that reads either would need a second enum to tell which it is.
 #[derive(Clone, Copy)]
 pub enum Record {
     Trace {
@@ -120,7 +122,7 @@ pub struct ChemstationUvState {
 }
 
 // How an array's numbers are stored.
-#[derive(Clone, Copy)]
+#[derive(Clone, Copy, Debug, PartialEq, Eq)]
 pub enum ChemstationArrayRecordType {
     Float32Array,
     Float64Array,
@@ -139,6 +141,10 @@ pub struct ChemstationArrayState {
 }
 
 // The state of a kind under the plain reading; DAD and UV under the atlas reading too.
+// Kept: the atlas reading as two cases of their own (b): `Dad(ChemstationDadState, Mode)` and `Uv(ChemstationUvState, Mode)` were tried and
+// proved. The library's Fill columns then took, instructions a record, FID 89.0 (70.0 in this form), MS 110.5 (104.4), MWD 103.1 (97.2),
+// DAD 96.4 (81.5), UV 95.4 (80.4), array 84.0 (68.0). With the Mode first, or in a field of the two structs,
+// the log is dearer too.
 #[derive(Clone, Copy)]
 pub enum State {
     Fid(ChemstationFidState),
@@ -152,7 +158,7 @@ pub enum State {
 }
 
 // How a run is read: as the original reads it, or by the press's rule that a scan is spent when its last point has been given.
-#[derive(Clone, Copy)]
+#[derive(Clone, Copy, Debug, PartialEq, Eq)]
 pub enum Mode {
     Plain,
     Atlas,
@@ -206,7 +212,7 @@ impl Record {
 // ---- MWD, DAD and UV: a delta
 
 // A number to add, or an absolute value.
-#[derive(Clone, Copy)]
+#[derive(Clone, Copy, Debug, PartialEq, Eq)]
 pub enum Delta {
     By(i16),
     Absolute(i32),
@@ -224,22 +230,31 @@ impl Delta {
     }
 }
 
+// Bytes from a position on, and whether no more come after them.
+#[derive(Clone, Copy)]
+pub struct Input<'a> {
+    pub bytes: &'a [u8],
+    pub at: usize,
+    pub last: bool,
+    pub ghost within: { at ≤ length bytes.now },
+}
+
 // The delta at a position and the position after it, or why there is none.
-// Kept: bytes, position and whether they are the last as three (d): each kind would begin with `Input { bytes: s, at: 0, last }`, and a
-// clause would read i.bytes.now, i.at and i.last where it now reads s.now, at and last, the three that `read_at` takes.
-pub fn delta_at(order: Endian, s: &[u8], at: usize, last: bool) -> Result<(Delta, usize), Stopped>
-    requires { at ≤ length s.now }
-    ensures { delta_read result ≡ read_at last (delta (order_of order)) at s.now }
+pub fn delta_at(order: Endian, input: Input<'_>) -> Result<(Delta, usize), Stopped>
+    ensures { delta_read result ≡ read_at input.entry.last (delta (order_of order)) input.entry.at input.entry.bytes.now }
 {
-    if s.len() - at < 2 {
-        return Err(error::lacking(last, false));
+    if input.bytes.len() - input.at < 2 {
+        return Err(error::lacking(input.last, false));
     }
-    let v = i16::in_order(order, s, at);
+    let v = i16::in_order(order, input.bytes, input.at);
     if v != -32768 {
-        return Ok((Delta::By(v), at + 2));
+        return Ok((Delta::By(v), input.at + 2));
     }
-    if s.len() - at < 6 {
-        return Err(error::lacking(last, false));
+    if input.bytes.len() - input.at < 6 {
+        return Err(error::lacking(input.last, false));
     }
-    Ok((Delta::Absolute(i32::in_order(order, s, at + 2)), at + 6))
+    Ok((
+        Delta::Absolute(i32::in_order(order, input.bytes, input.at + 2)),
+        input.at + 6,
+    ))
 }

@@ -11,9 +11,12 @@ ghost use Rattle.tally.specs.Tally.{inside, roomy, beside_of, exactly, joined, s
 
 use sums::Total;
 
-#[derive(Clone, Copy)]
+// Kept: (d) no PartialEq: two may stand for one total and be parted otherwise, and a NaN is not equal to itself.
+#[derive(Clone, Copy, Debug)]
 pub struct Tally {
     // from 2^52 to below 2^53, and how far it is from the middle counts; or a NaN, and nothing does
+    // Kept: (d) no Option: every comparison with a NaN is false, so it goes the way of a sum that was rounded, without a case of its own
+    // in `add` and in `total`.
     pub near: f64,
     pub far: Total,
 }
@@ -88,6 +91,7 @@ impl Tally {
 }
 
 // The values of a column, one behind the other, on top of a total.
+#[tactic(auto, using(crate::proofs::Laws::adding_more))]
 pub fn total_from(t: Total, values: &[f64]) -> Total
     ensures { result ≡ total_from t values.now }
 {

@@ -16,7 +16,7 @@ use Rattle.error.specs.declared.Refusal.{Refusal}
 use Rattle.error.specs.declared.Refusal.TheVariants.{LentLength}
 use Rattle.metadata.specs.Metadata.{Header, open_rule}
 use Rattle.std.specs.Prelude.{Result, Ok, Err}
-use Rattle.fetch.specs.declared.FetchedText.{FetchedText}
+use Rattle.utf16.specs.declared.Recoded.{Recoded}
 use Rattle.fetch.specs.declared.described.Described.{Described}
 use Rattle.fetch.specs.Fetch.{fetch_rule, wrote, refuse, fetched, Fetches}
 use Rattle.fetch.specs.Headers.{IsHeader, IsRefusal}
@@ -115,7 +115,7 @@ fifteen : (b : Bool) (n c : ℕ) → cond b (wrote n) (refuse 15) ≡ refuse c �
 fifteen true n c e = absurd (false≢true cc)
 fifteen false n c e = cc
 
-module _ (r : Result FetchedTexts Refusal) (f : Result FetchedText Refusal) (m : Both Texts Texts) (number : ℕ) (old new : List ℕ) (least : 1 ≤ number) (most : number ≤ 8) where
+module _ (r : Result FetchedTexts Refusal) (f : Result Recoded Refusal) (m : Both Texts Texts) (number : ℕ) (old new : List ℕ) (least : 1 ≤ number) (most : number ≤ 8) where
   agrees_on : (x : Read Header) → FetchesAll r m (map_read texts_read x) → Fetches f old new (map_read (λ ts. get_or ts (number - 1) []) (map_read texts_read x)) → AsFetched r m number f old new
   agrees_on (got x j) a b =
       let ts = texts_read x in
@@ -133,7 +133,7 @@ module _ (r : Result FetchedTexts Refusal) (f : Result FetchedText Refusal) (m :
         refused = λ c k e. b.answer ∙ sym a.answer ∙ e;
       }
 
-pub agrees : (kind number : ℕ) (s : List ℕ) (r : Result FetchedTexts Refusal) (f : Result FetchedText Refusal) (m : Both Texts Texts) (old new : List ℕ) → 1 ≤ number → number ≤ 8 → FetchesAll r m (read true (eight_rule kind) s)
+pub agrees : (kind number : ℕ) (s : List ℕ) (r : Result FetchedTexts Refusal) (f : Result Recoded Refusal) (m : Both Texts Texts) (old new : List ℕ) → 1 ≤ number → number ≤ 8 → FetchesAll r m (read true (eight_rule kind) s)
     → Fetches f old new (read true (fetch_rule kind number) s) → AsFetched r m number f old new
 agrees kind number s r f m old new least most a b =
     let e = eight_opens kind s in

@@ -11,7 +11,7 @@ use Rattle.common.specs.Bytes.{part}
 use Rattle.fetch.specs.Fetch.{text_of, Outcome, wrote, refuse, fetched, Fetches, replaced_in, replaced_by, passed_on}
 use Rattle.fetch.specs.Fetch as one
 use Rattle.fetch.specs.declared.described.Described.{Described}
-use Rattle.fetch.specs.declared.FetchedText.{FetchedText}
+use Rattle.utf16.specs.declared.Recoded.{Recoded}
 use Rattle.texts.specs.declared.FetchedTexts.{FetchedTexts}
 
 abbrev pub numbers : List ℕ
@@ -72,7 +72,7 @@ abbrev pub text_at : Texts → ℕ → List ℕ
 text_at m k = part (get_or m.starts k 0) (get_or m.lengths k 0) m.bytes
 
 -- the law: what is said of a text at once is what Fetch says of it alone
-pub record AsFetched (r : Result FetchedTexts Refusal) (m : Both Texts Texts) (number : ℕ) (f : Result FetchedText Refusal) (old new : List ℕ) : Type 0 where
+pub record AsFetched (r : Result FetchedTexts Refusal) (m : Both Texts Texts) (number : ℕ) (f : Result Recoded Refusal) (old new : List ℕ) : Type 0 where
   -- Fetch writes the text that stands in its place
   pub given : (n : ℕ) → outcome_of r ≡ wrote n → Fetches f old new (got (text_at m.exit (number - 1)) n)
   -- and is refused as all are, but for their length

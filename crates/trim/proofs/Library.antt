@@ -71,7 +71,7 @@ drops (c ∷ cs) =
     kept false e [] = simp e
     kept false e (d ∷ l) = simp e
 
-start_scalars : (cs : List ℕ) → Scalars cs → Scalars (trim_start cs)
+pub start_scalars : (cs : List ℕ) → Scalars cs → Scalars (trim_start cs)
 unfolding trim_start
 start_scalars [] s = tt
 start_scalars (c ∷ cs) s = go (white c) (start_scalars cs s.1)

@@ -27,6 +27,7 @@ pub fn trim_utf8(s: &[u8]) -> Option<Extent>
 }
 
 // What the definitions mean, in a contract so that it cannot be left out: a trimmed text stands where it is said to.
+#[tactic(auto, using(crate::proofs::Stands::means))]
 pub fn trim_laws()
     ensures trims { (bs : List ℕ) → Means bs (trimmed_of bs) }
 {}

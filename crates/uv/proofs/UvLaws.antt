@@ -5,9 +5,10 @@ use mathlib.Core.List.{List, [], ◌∷◌}
 use Prim.Native.Nat.{ℕ, ◌≤◌, ◌<◌}
 use native.Mathlib.Omega.{arith}
 use lib.Dec.{eqb, ltb}
+use lib.Ieee.{binary64, of_int, of_bits}
 use lib.ListN.{length}
 use borrow.Author.Tests.{eq-eqb, ne_eqb, lt-ltb, le-ltb}
-use Rattle.rules.specs.Rule.{Rule, refuses, refused, Read, stops, read, read_at, ◌>>=◌, ◌>>◌, skip, map_read}
+use Rattle.rules.specs.Rule.{Rule, finished, refuses, refused, Read, stops, read, read_at, ◌>>=◌, ◌>>◌, skip, map_read}
 use Rattle.rules.proofs.Places.{at_number, at_cut, more_number, none, cut}
 use Rattle.common.specs.Bytes.{le, part}
 use Rattle.common.specs.Fields.{u16}
@@ -15,12 +16,13 @@ use Rattle.floats.specs.Doubles.{double}
 use Rattle.floats.specs.Wholes.{doubles, flat}
 use Rattle.streams.specs.Changes.{clears}
 use Rattle.streams.specs.Told.{Told}
-use Rattle.streams.specs.Next.{stepped}
+use Rattle.streams.specs.Next.{stepped, rule_by}
 use Rattle.streams.specs.declared.State.TheVariants.{Uv}
 use Rattle.streams.specs.declared.ChemstationUvState.{ChemstationUvState}
 use Rattle.streams.proofs.PointLaws.{point_cleared}
+use Rattle.streams.proofs.ScanningLaws.{scans_done, scan_new, scan_within}
 use Rattle.streams.proofs.Steps.{answer}
-use Rattle.uv.specs.Uv.{uv_point, uv_begun, uv_scan}
+use Rattle.uv.specs.Uv.{uv_point, uv_begun, uv_scan, uv_left, uv_scanning, uv_rule}
 
 module _ (st : ChemstationUvState) (last : Bool) (s : List ℕ) where
   abbrev ReadsScan : Read Told → Type 0
@@ -73,3 +75,28 @@ module _ (st : ChemstationUvState) (last : Bool) (s : List ℕ) where
               answer (Uv st) (read_at last (uv_scan st) 0 s) ≡ map_read (stepped (flat doubles (double 0))) (read_at last (uv_point (uv_begun st time start end step) st.n_scans_left []) 22 s)
           unfolding uv_point
           uv_first h = steps (omega arith) ∙ rw (ne_eqb step 0 z) (ap (answer (Uv st)) (at_number last 8 _ _ 14 s h)) ∙ sym (point_cleared le last 22 s st.cur_intensity _)
+
+-- ---- the next record, by the counts that are due
+
+module _ (st : ChemstationUvState) (last : Bool) (s : List ℕ) where
+  abbrev NextReads : Rule Told → Type 0
+  NextReads r = read last (rule_by (Uv st) (uv_rule st)) s ≡ answer (Uv st) (read_at last r 0 s)
+
+  pub uv_ends : st.n_scans_left.0 ≡ 0 → read last (rule_by (Uv st) (uv_rule st)) s ≡ stops finished
+  uv_ends e = scans_done (Uv st) (uv_scanning st) last s (eq-eqb _ _ e)
+
+  pub uv_new : (st.n_scans_left.0 ≡ 0 → ⊥) → st.n_wvs_left.0 ≡ 0 → NextReads (uv_scan st)
+  uv_new n e = scan_new (Uv st) (uv_scanning st) last s (ne_eqb _ _ n) e
+
+  pub uv_within : (st.n_scans_left.0 ≡ 0 → ⊥) → (st.n_wvs_left.0 ≡ 0 → ⊥) → NextReads (uv_point st (uv_left st) [])
+  uv_within n e = scan_within (Uv st) (uv_scanning st) last s (ne_eqb _ _ n) e
+
+-- ---- constants, by their bit patterns
+
+pub zero_is : of_bits binary64 0 ≡ double 0
+unfolding of_int of_bits
+zero_is = refl
+
+pub twenty_is : of_bits binary64 4626322717216342016 ≡ double 20
+unfolding of_int of_bits
+twenty_is = refl

@@ -14,15 +14,15 @@ use Rattle.volumes.specs.Volume.{Told, instant, no_date, refuse, inside, outside
 lies : (a b kind : ℕ) (s : List ℕ) → placed a b kind s ≡ inside → Lies a b kind s
 unfolding placed
 lies a b kind s e = by (ltb b a)
-    (λ r. let z : refused 19 ≡ inside = simp r at e in absurd (let y : ◌≡◌ {A = ℕ} 0 1 = cc in omega arith))
+    (λ r. let z : refused 19 ≡ inside = simp r at e in cc)
     (λ r. of (run_date kind s) refl (simp r at e))
   where
     of : (t : Told) → run_date kind s ≡ t → place_of a b t ≡ inside → Lies a b kind s
     of (instant i) p q = by (leb a i && ltb i b)
         (λ h. record { at = i; date = p; from = leb-true a i (first (leb a i) (ltb i b) h); before = ltb-true i b (second (leb a i) (ltb i b) h) })
-        (λ h. let z : outside ≡ inside = simp h at q in absurd (let y : ◌≡◌ {A = ℕ} 0 1 = cc in omega arith))
-    of no_date p q = absurd (let y : ◌≡◌ {A = ℕ} 0 1 = cc in omega arith)
-    of (refuse c) p q = absurd (let y : ◌≡◌ {A = ℕ} 0 1 = cc in omega arith)
+        (λ h. let z : outside ≡ inside = simp h at q in cc)
+    of no_date p q = cc
+    of (refuse c) p q = cc
 
 lying : (a b kind : ℕ) (s : List ℕ) → Lies a b kind s → placed a b kind s ≡ inside
 unfolding placed

@@ -9,6 +9,7 @@ ghost use Rattle.volumes.specs.Volume.{told, run_date, date_told, place_of, wher
 use dates::date_of;
 use error::Refusal;
 use fetch::{Described, Stored};
+use std::ops::Range;
 use utf16::decode_utf16;
 
 // Where a file's date lies, of a window.
@@ -29,7 +30,7 @@ fn date_in(d: &Described<'_>) -> Option<u32>
     match d.text(7) {
         Stored::Utf8(bytes) => date_of(bytes),
         Stored::Utf16(bytes) => {
-            // Kept: the programs and the C library use no heap, so the text is decoded into memory of a fixed size.
+            // Kept: (a) the programs and the C library use no heap, so the text is decoded into memory of a fixed size.
             let mut text = [0u8; 96];
             let recoded = decode_utf16(bytes, &mut text)?;
             date_of(&text[..recoded.bytes])
@@ -47,17 +48,18 @@ pub fn run_date(kind: u8, s: &[u8]) -> Result<Option<u32>, Refusal>
 }
 
 // Where a date lies.
-fn place_of(start: u32, end: u32, date: Option<u32>) -> Placed
-    ensures { where_told result ≡ place_of start end (told date) }
+fn place_of(window: Range<u32>, date: Option<u32>) -> Placed
+    ensures { where_told result ≡ place_of window.start window.end (told date) }
 {
     match date {
         None => Placed::Undated,
-        Some(i) if (start..end).contains(&i) => Placed::Inside,
+        Some(i) if window.contains(&i) => Placed::Inside,
         Some(_) => Placed::Outside,
     }
 }
 
 // Whether the run date of a file lies in the window from one instant up to, not including, another.
+// Kept: (a) the C interface hands over two instants, and here is refused what is no window: an end before the start.
 #[tactic(auto, unfolding(crate::specs::Volume::placed))]
 pub fn in_window(start: u32, end: u32, kind: u8, s: &[u8]) -> Result<Placed, Refusal>
     ensures { place_told result ≡ placed start end kind s.now }
@@ -65,7 +67,7 @@ pub fn in_window(start: u32, end: u32, kind: u8, s: &[u8]) -> Result<Placed, Ref
     if end < start {
         return Err(Refusal::WindowReversed);
     }
-    Ok(place_of(start, end, run_date(kind, s)?))
+    Ok(place_of(start..end, run_date(kind, s)?))
 }
 
 // What windows hold, in a contract so that it cannot be left out.

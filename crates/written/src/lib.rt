@@ -7,10 +7,7 @@ ghost use Rattle.written.specs.Written.{Puts};
 pub fn copy_text(src: &[u8], out: &mut [u8]) -> Option<usize>
     ensures { Puts result out.old out.new src.now }
 {
-    let n = src.len();
-    if out.len() < n {
-        return None;
-    }
-    out[..n].copy_from_slice(src);
-    Some(n)
+    let (front, _) = out.split_at_mut_checked(src.len())?;
+    front.copy_from_slice(src);
+    Some(src.len())
 }

@@ -1,8 +1,7 @@
 -- The loop keeps what is gathered so far, and what the calls that are left give behind it.
 use mathlib.Core.Path.{refl}
 use native.Mathlib.Omega.{arith}
-use Rattle.reader.proofs.ColumnLaws.{same_still}
-use Rattle.calls.proofs.CallLoop.{going_start, going_ends, going_room, going_inside, going_rows, going_more}
+use Rattle.calls.proofs.CallLoop.{going_ends, going_room, going_inside, going_rows}
 use Rattle.calls.proofs.calls_from.Goals as goal
 
 pub one_call-f-requires : goal.one_call-f-requires
@@ -17,12 +16,6 @@ pub overflow_add-rows : goal.overflow_add-rows
 overflow_add-rows c =
     let h = going_rows _ _ _ _ _ _ _ _ _ _ c.loop-call.invariant.going (omega arith) _ _ c.one_call-f.ensures.gives in
     omega (arith, h)
-
-pub loop-call-preserved : goal.loop-call-preserved
-loop-call-preserved c = record {
-  same = same_still c.loop-call.invariant.same c.one_call-f.ensures.same;
-  going = going_more _ _ _ _ _ _ _ _ _ _ c.loop-call.invariant.going (omega arith) _ _ c.one_call-f.ensures.gives _ c.first_fewer-closing.ensures;
-}
 
 pub returns-clause-comes_to : goal.returns-clause-comes_to
 returns-clause-comes_to c = going_ends _ _ _ _ _ _ _ _ _ _ c.loop-call.invariant.going (omega arith) _ _ refl

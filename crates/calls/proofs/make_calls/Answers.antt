@@ -3,11 +3,9 @@ use mathlib.Core.Path.{sym, ◌∙◌}
 use native.Mathlib.Omega.{arith}
 use lib.ListN.{length}
 use Rattle.rules.specs.Calls.{asked}
-use Rattle.rules.proofs.Laws.{taken_within}
-use Rattle.modes.specs.Modes.{start_by}
 use Rattle.reader.specs.Columns.{held}
 use Rattle.calls.specs.MakeCalls.{calls_of}
-use Rattle.calls.proofs.Opened.{opened, demanded, above, accepted, has_room, no_state, from_state}
+use Rattle.calls.proofs.Opened.{opened, demanded, above, accepted, no_state, from_state}
 use Rattle.calls.proofs.make_calls.Goals as goal
 
 pub returns-then-not-are_even-clause-makes : goal.returns-then-not-are_even-clause-makes
@@ -23,20 +21,6 @@ returns-in_default-clause-makes c =
     let e = sym c.are_even.ensures ∙ c.if-not-are_even.false in
     let h = above (length c.args.columns.now.time.now) (asked cs) (sym c.asked_by_all.ensures ∙ c.in_default.is) in
     record { answer = rw (e, h); columns = rw (e, h); demand = d }
-
-pub slice_bounds-calls_from-count : goal.slice_bounds-calls_from-count
-slice_bounds-calls_from-count c =
-    taken_within _ (start_by c.args.mode c.args.kind) c.args.file.now (opened c.args.mode c.args.kind c.args.file.now _ c.open_by.ensures _ c.in-Ok.is)
-
-pub slice_bounds-calls_from-start : goal.slice_bounds-calls_from-start
-slice_bounds-calls_from-start c =
-    taken_within _ (start_by c.args.mode c.args.kind) c.args.file.now (opened c.args.mode c.args.kind c.args.file.now _ c.open_by.ensures _ c.in-Ok.is)
-
-pub calls_from-requires : goal.calls_from-requires
-calls_from-requires c =
-    let cs = calls_of c.args.calls.now in
-    let h = accepted cs _ (held c.args.columns.now) (sym c.are_even.ensures ∙ c.if-not-are_even.false) (sym c.asked_by_all.ensures ∙ c.in-Some.is) in
-    has_room c.args.mode c.args.kind cs c.args.file.now _ (held c.args.columns.now) h
 
 pub returns-in-Err-clause-makes : goal.returns-in-Err-clause-makes
 returns-in-Err-clause-makes c =

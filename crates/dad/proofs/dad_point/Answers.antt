@@ -10,10 +10,10 @@ use Rattle.dad.proofs.dad_point.Goals as goal
 pub returns : goal.returns
 unfolding dad_point
 returns c =
-    rw c.dad_given.ensures (point_of_lem le c.args.last c.args.at c.args.s.now (sum_of (Dad c.args.st)) _ c.delta_at.ensures c.in_ok-d.was)
+    rw c.dad_given.ensures (point_of_lem le c.args.input.last c.args.input.at c.args.input.bytes.now (sum_of (Dad c.args.st)) _ c.delta_at.ensures c.in_ok-d.was)
 
 pub returns-in_err-d : goal.returns-in_err-d
 unfolding dad_point
 returns-in_err-d c =
     let p = err_from_is_err_and c.from_residual.result c.from_residual.ensures.1 in
-    rw (p.1, p.2) (point_of_lem le c.args.last c.args.at c.args.s.now (sum_of (Dad c.args.st)) _ c.delta_at.ensures c.in_err-d.was)
+    rw (p.1, p.2) (point_of_lem le c.args.input.last c.args.input.at c.args.input.bytes.now (sum_of (Dad c.args.st)) _ c.delta_at.ensures c.in_err-d.was)

@@ -1,5 +1,5 @@
 -- By what each step asks for.
-use Rattle.std.proofs.Common.{◌≡◌, ◌<◌, List, ◌++◌, ℕ, take, sym, ◌∙◌, subst, arith, Result, Ok, IfOk, IfSome}
+use Rattle.std.proofs.Common.{◌≡◌, ◌<◌, List, ◌++◌, ℕ, take, sym, ◌∙◌, subst, arith, Result, IfOk, IfSome}
 use Rattle.places.specs.declared.Place.{Place}
 use Rattle.places.specs.declared.Ask.{Ask}
 use Rattle.places.specs.Machine.{step_of}
@@ -67,7 +67,7 @@ loop-q-preserved-in-Ok g c = λ whole xs ys i o.
           rw (w.input-is, w.output-is, w.buf-is)
           (writes _ _ _ xs ys c.loop-q.p c.loop-q.buf c.loop-q.out _ _ going w.in-Write.q _ w.in-Write.n c.step.result _ _ c.step.ensures _ w.in-Write.is r.0 r.1)
       | in-Tell w ↦
-          let r = subst (λ a. IfOk a (λ r. Appends (g.E.Write.contents c.loop-q.errors) (g.E.Write.contents w.tell-after.new.errors) (name_of c.args.mode ++ take w.in-Tell.n c.step.new.out) × (r ≡ w.in-Tell.q))) (sym w.after-is ∙ c.in-Ok.is) w.tell-after.ensures.told in
+          let r = subst (λ a. IfOk a (λ r. Appends (g.E.Write.contents c.loop-q.teller.to.now) (g.E.Write.contents w.tell-after.new.self.to.now) (name_of c.loop-q.teller.mode ++ take w.in-Tell.n c.step.new.out) × (r ≡ w.in-Tell.q))) (sym w.after-is ∙ c.in-Ok.is) w.tell-after.ensures.told in
           rw (w.input-is, w.output-is, w.buf-is)
           (tells _ _ _ xs ys c.loop-q.p c.loop-q.buf c.loop-q.out _ _ going w.in-Tell.q _ w.in-Tell.n c.step.result _ _ c.step.ensures w.in-Tell.is r.1)
       | in-Read w ↦

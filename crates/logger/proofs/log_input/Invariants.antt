@@ -7,7 +7,7 @@ use Rattle.logger.proofs.log_input.Given as goal
 abbrev pub invariant-loop-q : goal.invariant-loop-q
 invariant-loop-q g l =
     IsTrue l.whole → (xs ys : List ℕ) → g.R.Read.remaining l.fn.input ≡ Some xs → g.W.Write.contents l.fn.output ≡ Some ys →
-    Going l.mode l.fn.buf l.fn.out xs ys l.p l.buf l.out (g.R.Read.remaining l.input) (g.W.Write.contents l.output)
+    Going l.fn.mode l.fn.buf l.fn.out xs ys l.p l.buf l.out (g.R.Read.remaining l.input) (g.W.Write.contents l.output)
 
 abbrev pub decreases-loop-q : goal.decreases-loop-q
 decreases-loop-q g l = weight l.p

@@ -1,18 +1,12 @@
 -- The description first, then what the kind asks.
 use mathlib.Core.Path.{sym, ap, ◌∙◌}
 use lib.Ieee.{of_int, of_bits}
-use Rattle.std.proofs.lemmas.Result.{err_from_is_err_and}
 use Rattle.rules.specs.Rule.{gives}
 use Rattle.floats.specs.Doubles.{double}
 use Rattle.agilent.specs.Header.{kind_number}
 use Rattle.metadata.specs.Metadata.{after_bytes}
-use Rattle.metadata.proofs.Opens.{not_described, is_described, no_scans, stored_scans}
+use Rattle.metadata.proofs.Opens.{is_described, no_scans, stored_scans}
 use Rattle.metadata.proofs.from_header.Goals as goal
-
-pub returns-in_err-metadata : goal.returns-in_err-metadata
-returns-in_err-metadata c =
-    let p = err_from_is_err_and c.from_residual.result c.from_residual.ensures.1 in
-    rw (p.1, p.2) (sym (not_described _ c.args.h.now (sym c.in_err-metadata.ensures)))
 
 pub returns-in-Array : goal.returns-in-Array
 returns-in-Array c =

@@ -5,11 +5,8 @@ use Rattle.std.proofs.Common.{Some, None}
 use Rattle.std.proofs.lemmas.Result.{err_from_is_err_and}
 use Rattle.rules.specs.Rule.{◌>>=◌}
 use Rattle.error.specs.declared.Refusal.TheVariants.{TooManyScans}
-use Rattle.metadata.proofs.Opens.{array_small, array_counted}
+use Rattle.metadata.proofs.Opens.{array_counted}
 use Rattle.metadata.proofs.open_array.Goals as goal
-
-pub returns-then-h-lt4126 : goal.returns-then-h-lt4126
-returns-then-h-lt4126 c = sym (array_small c.args.metadata c.args.h.now c.if-h-lt4126.true)
 
 pub returns-in_err-scans : goal.returns-in_err-scans
 unfolding ◌>>=◌

@@ -10,11 +10,11 @@ use Rattle.mwd.proofs.mwd_point.Goals as goal
 pub returns : goal.returns
 unfolding mwd_point
 returns c =
-    rw (c.mwd_given.ensures, c.applied_to.ensures)
-    (point_of_lem be c.args.last c.args.at c.args.s.now (sum_of (Mwd c.args.st)) _ c.delta_at.ensures c.in_ok-d.was)
+    rw (c.mwd_given.ensures, c.applied_to-value.ensures)
+    (point_of_lem be c.args.input.last c.args.input.at c.args.input.bytes.now (sum_of (Mwd c.args.st)) _ c.delta_at.ensures c.in_ok-d.was)
 
 pub returns-in_err-d : goal.returns-in_err-d
 unfolding mwd_point
 returns-in_err-d c =
     let p = err_from_is_err_and c.from_residual.result c.from_residual.ensures.1 in
-    rw (p.1, p.2) (point_of_lem be c.args.last c.args.at c.args.s.now (sum_of (Mwd c.args.st)) _ c.delta_at.ensures c.in_err-d.was)
+    rw (p.1, p.2) (point_of_lem be c.args.input.last c.args.input.at c.args.input.bytes.now (sum_of (Mwd c.args.st)) _ c.delta_at.ensures c.in_err-d.was)

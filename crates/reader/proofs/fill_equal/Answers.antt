@@ -1,9 +1,6 @@
 -- The loop keeps that so many records are read and stand in the columns; it ends where the columns are full or the rule stops.
 use mathlib.Core.Path.{refl}
 use native.Mathlib.Omega.{arith}
-use lib.ListN.{drop, length-drop}
-use Rattle.rules.proofs.Laws.{taken_within}
-use Rattle.chemstation.specs.Next.{rule}
 use Rattle.chemstation.proofs.Answers.{answered}
 use Rattle.reader.proofs.ColumnLaws.{same_still, going_more, going_stops, going_full}
 use Rattle.reader.proofs.fill_equal.Goals as goal
@@ -12,11 +9,6 @@ pub returns-in-Err-clause-filled : goal.returns-in-Err-clause-filled
 returns-in-Err-clause-filled c =
     let q = answered c.loop-i.cur c.args.last c.args.s.now c.loop-i.at _ _ c.next_record.ensures c.in-Err.is in
     rw c.requires (going_stops _ _ _ _ _ _ _ _ _ c.loop-i.invariant.going (omega arith) _ _ refl q)
-
-pub overflow_add-at : goal.overflow_add-at
-overflow_add-at c =
-    let q = answered c.loop-i.cur c.args.last c.args.s.now c.loop-i.at _ _ c.next_record.ensures c.in-Ok.is in
-    omega (arith, taken_within c.args.last (rule c.loop-i.cur) (drop c.loop-i.at c.args.s.now) q, length-drop c.loop-i.at c.args.s.now, c.loop-i.invariant.going.inside, c.well_formed.1.0)
 
 pub loop-i-preserved : goal.loop-i-preserved
 loop-i-preserved c =

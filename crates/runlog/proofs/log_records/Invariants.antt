@@ -4,8 +4,8 @@ use Rattle.tally.proofs.Laws.{StandsFor}
 use Rattle.runlog.proofs.Logs.{Logging, room_of}
 use Rattle.runlog.proofs.log_records.Given as goal
 
-abbrev pub invariant-loop-pen : goal.invariant-loop-pen
-invariant-loop-pen l = (t : AnyTotal) × Logging l.last l.initial.cur l.src l.from l.initial.pen l.initial.sum.far l.pen l.cur l.f l.count t × StandsFor l.sum t
+abbrev pub invariant-loop-own : goal.invariant-loop-own
+invariant-loop-own l = (t : AnyTotal) × Logging l.last l.initial.cur l.src l.from l.initial.own l.initial.sum.far l.own l.cur l.f l.count t × StandsFor l.sum t
 
-abbrev pub decreases-loop-pen : goal.decreases-loop-pen
-decreases-loop-pen l = room_of l.pen
+abbrev pub decreases-loop-own : goal.decreases-loop-own
+decreases-loop-own l = room_of l.own

@@ -19,9 +19,6 @@ returns-then-not-fit c =
     let t = room_refused c.args.kind c.args.s.now old c.in_ok-d.d c.in_ok-d.ensures.opened (leb-false _ _ (sym c.fit.ensures ∙ c.if-not-fit.true)) in
     record { texts = t.0; replaced = t.1 }
 
-pub lay_out-requires : goal.lay_out-requires
-lay_out-requires c = leb-true _ _ (sym c.fit.ensures ∙ c.if-not-fit.false)
-
 pub returns : goal.returns
 returns c =
     let old : Texts = record { bytes = c.args.out.now; starts = c.args.starts.now; lengths = c.args.lengths.now } in

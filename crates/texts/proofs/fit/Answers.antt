@@ -4,5 +4,5 @@ use Rattle.std.proofs.lemmas.Grind.{common_steps}
 use Rattle.texts.proofs.Joins.{all_bounded}
 use Rattle.texts.proofs.fit.Goals as goal
 
-pub returns-then-stored_fit : goal.returns-then-stored_fit
-returns-then-stored_fit c = grind (arith, common_steps, all_bounded c.args.d.now)
+pub returns-then-is_some : goal.returns-then-is_some
+returns-then-is_some c = grind (arith, common_steps, all_bounded c.args.d.now)

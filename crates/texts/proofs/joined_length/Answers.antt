@@ -14,7 +14,7 @@ loop-k-preserved c =
     let d = c.args.d.now in
     let h = c.loop-k-test.true in
     let t = utf8_in c.text.result in
-    let w = sym c.in_ok-n.was ∙ c.text_length.ensures in
+    let w = sym c.in_ok-n.was ∙ c.measured.ensures in
     let e = length_for (c.args.room - c.loop-k.n) t c.in_ok-n.field-0 w in
     record {
       count = counts (texts_in d) c.loop-k.n c.loop-k.k _ c.loop-k.invariant.count (omega (arith, eight_texts d, h)) (text_is d c.loop-k.k c.text.result h c.text.ensures.text) _ e;
@@ -25,7 +25,7 @@ pub returns-in_err-n : goal.returns-in_err-n
 returns-in_err-n c =
     let d = c.args.d.now in
     let h = c.loop-k-test.true in
-    let w = no_room (c.args.room - c.loop-k.n) (utf8_in c.text.result) (sym c.in_err-n.was ∙ c.text_length.ensures) in
+    let w = no_room (c.args.room - c.loop-k.n) (utf8_in c.text.result) (sym c.in_err-n.was ∙ c.measured.ensures) in
     c.from_residual.ensures
     ∙ overflows _ _ (passes_by (texts_in d) c.loop-k.n c.loop-k.k _ c.loop-k.invariant.count (omega (arith, eight_texts d, h)) (text_is d c.loop-k.k c.text.result h c.text.ensures.text) c.args.room c.loop-k.invariant.room w)
 

@@ -10,11 +10,11 @@ use Rattle.uv.proofs.uv_point.Goals as goal
 pub returns : goal.returns
 unfolding uv_point
 returns c =
-    rw (c.uv_given.ensures, c.applied_to.ensures)
-    (point_of_lem le c.args.last c.args.at c.args.s.now (sum_of (Uv c.args.st)) _ c.delta_at.ensures c.in_ok-d.was)
+    rw (c.uv_given.ensures, c.applied_to-value.ensures)
+    (point_of_lem le c.args.input.last c.args.input.at c.args.input.bytes.now (sum_of (Uv c.args.st)) _ c.delta_at.ensures c.in_ok-d.was)
 
 pub returns-in_err-d : goal.returns-in_err-d
 unfolding uv_point
 returns-in_err-d c =
     let p = err_from_is_err_and c.from_residual.result c.from_residual.ensures.1 in
-    rw (p.1, p.2) (point_of_lem le c.args.last c.args.at c.args.s.now (sum_of (Uv c.args.st)) _ c.delta_at.ensures c.in_err-d.was)
+    rw (p.1, p.2) (point_of_lem le c.args.input.last c.args.input.at c.args.input.bytes.now (sum_of (Uv c.args.st)) _ c.delta_at.ensures c.in_err-d.was)

@@ -3,13 +3,12 @@ use mathlib.Core.Path.{sym, ap, ◌∙◌}
 use native.Mathlib.Omega.{arith}
 use Rattle.std.proofs.lemmas.Result.{err_from_is_err_and}
 use lib.ListN.{get_or}
-use Rattle.rules.specs.Rule.{gives}
 use Rattle.pascal.specs.declared.TextField.TheVariants.{Absent}
 use Rattle.pascal.specs.Texts.{reach, text_rule}
 use Rattle.layouts.specs.Editions.{edition_number}
 use Rattle.layouts.proofs.Tables.{field_at, field_lies}
-use Rattle.metadata.proofs.Gathers.{refused, found, all}
-use Rattle.metadata.proofs.Opens.{texts_refuse, texts_found}
+use Rattle.metadata.proofs.Gathers.{refused, found}
+use Rattle.metadata.proofs.Opens.{texts_refuse}
 use Rattle.metadata.proofs.WholeHeader.describe.Goals as goal
 
 pub text_place-requires : goal.text_place-requires
@@ -32,9 +31,3 @@ loop-k-preserved c =
     let h = c.args.self.now.bytes.now in
     let f = ap (λ l. text_rule (get_or l c.loop-k.k Absent) h) c.fields.ensures ∙ ap (λ f. text_rule f h) (field_at c.loop-k.k e) in
     found e h c.loop-k.k (omega arith) _ _ c.loop-k.invariant _ (sym f ∙ sym c.in_ok-text.ensures)
-
-pub returns : goal.returns
-returns c =
-    let e = edition_number c.args.self.now.edition in
-    let h = c.args.self.now.bytes.now in
-    ap gives c.described.ensures ∙ sym (texts_found h e (all e h _ c.loop-k-test.false _ _ c.loop-k.invariant))

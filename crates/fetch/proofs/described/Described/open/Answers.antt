@@ -1,7 +1,7 @@
 -- No header is 'finished'; one that was opened says its description.
 use Rattle.std.proofs.Common.{◌≡◌, Ok, ℕ, zero, suc, ◌<◌, List, [], ◌∷◌, get_or, take, Fits, w8, sym, arith, length-take-le}
 use Rattle.std.proofs.lemmas.Grind.{common_steps}
-use Rattle.metadata.proofs.HeaderReads.{never_finished, fits}
+use Rattle.metadata.proofs.HeaderReads.{fits}
 use Rattle.fetch.proofs.described.Described.open.Goals as goal
 
 small_take : (n : ℕ) (bs : List ℕ) → ((i : ℕ) → Fits w8 (get_or bs i 0)) → (i : ℕ) → get_or (take n bs) i 0 < 256
@@ -9,9 +9,6 @@ small_take zero bs h i = omega arith
 small_take (suc n) [] h i = omega arith
 small_take (suc n) (b ∷ bs) h zero = (h zero).fits
 small_take (suc n) (b ∷ bs) h (suc i) = small_take n bs (λ i. h (suc i)) i
-
-pub map_err-requires : goal.map_err-requires
-map_err-requires c = λ e p. never_finished _ _ _ _ c.open_header.ensures p
 
 pub slice_bounds-result-end : goal.slice_bounds-result-end
 slice_bounds-result-end c =

@@ -1,5 +1,0 @@
--- As opened by the reading.
-use Rattle.chemread.proofs.chemstation_open.Goals as goal
-
-pub returns : goal.returns
-returns c = c.open_into.ensures

@@ -1,7 +1,0 @@
--- Frame by frame; the pen stays over its memory.
-use Rattle.std.proofs.Common.{◌≡◌, length}
-use Rattle.replay.specs.Pens.{Stays}
-use Rattle.replay.proofs.replay.Given as goal
-
-abbrev pub invariant-loop-number : goal.invariant-loop-number
-invariant-loop-number g l = (length l.buf ≡ length l.fn.buf) × Stays l.initial.pen l.pen
