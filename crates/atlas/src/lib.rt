@@ -74,8 +74,7 @@ fn scans_by(debit: Option<Scans>, scans: Scans, due: usize) -> Scans
 }
 
 // The state after a point, by the reading and the state that the plain rule makes; no point of DAD or UV leads to another kind.
-// Kept: a plain state is made anew too (b): handed on as it is, a DAD record of Fill columns took 101.6 instructions for 84.4, by an older
-// Rattle (docs/BENCHMARKS.md).
+// Kept: a plain state is made anew too (b): handed on as it is, a record of the log took 1 (MWD) to 8 (UV) instructions more.
 // Kept: two arms that are alike (d): a generic function over the two states would need a trait with four members, to set the scans, to read
 // what is due, and the two cases, for two arms of nine lines.
 fn after_by(debit: Option<Scans>, st: State) -> State

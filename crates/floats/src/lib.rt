@@ -42,14 +42,14 @@ impl FromPattern<u64> for f64 {
 impl FromPattern<u32> for f64 {
     ghost number = { λ bits. from_bits binary32 bits };
 
-    // Kept: (b) `f64::from(f32_from_bits_with_nan(bits))` alone tests each number for a NaN twice: three instructions more in the compiled code
-    // for each record of an array of singles.
+    // Kept: (b) by `f64::from(f32_from_bits_with_nan(bits))` alone, or by `f64::from` for the cast, each number is tested for a NaN twice: Fill
+    // columns of an array of singles took 56 and 55 instructions a record in place of 52.
     #[tactic(auto, using(std::proofs::lemmas::Float::not_nan_f32_bits))]
     fn from_pattern(bits: u32) -> f64 {
         if bits % 0x8000_0000 > 0x7f80_0000 {
             f64::from(f32_from_bits_with_nan(bits))
         } else {
-            f64::from(f32::from_bits(bits))
+            f32::from_bits(bits) as f64
         }
     }
 }
