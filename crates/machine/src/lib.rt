@@ -35,7 +35,7 @@ fn log_hand(st: State, p: Place, buf: &mut [u8], out: &mut [u8]) -> Ask
 {
     let hand = &buf[p.from..p.to];
     let mut pen = Pen { out, at: p.at };
-    let w = runlog::log_records(st, hand, 0, p.last, &mut pen, p.total);
+    let w = runlog::log_records(st, hand, p.last, &mut pen, p.total);
     let left = p.from + w.from;
     if w.count > usize::MAX - p.count {
         let q = Place {

@@ -146,13 +146,13 @@ module _ (p : Place) (st : State) (buf out : List ℕ) {r : Ask} {b o : List ℕ
 
 -- ---- records logged
 
-module _ (p : Place) (st : State) (buf : List ℕ) (pen next : Pen) (at_start : pen.at ≡ p.at) (g : Reading State Record) (w : Logged) (l : LoggedBy g 0 pen p.total w next) where
+module _ (p : Place) (st : State) (buf : List ℕ) (pen next : Pen) (at_start : pen.at ≡ p.at) (g : Reading State Record) (w : Logged) (l : LoggedBy g pen p.total w next) where
   abbrev here : List ℕ
   here = put_at p.at (lines_of g.records) pen.out.now
 
   -- the place behind them
   placed : (phase : Phase) (count : ℕ) → moved_to p phase (p.from + w.from) p.to next.at count ≡ moved_to p phase (p.from + g.consumed) p.to (p.at + length (lines_of g.records)) count
-  placed phase count = ap₂ (λ f a. moved_to p phase (p.from + f) p.to a count) (l.from ∙ zero-add g.consumed) (l.put.put.next ∙ ap (λ n. n + length (lines_of g.records)) at_start)
+  placed phase count = ap₂ (λ f a. moved_to p phase (p.from + f) p.to a count) l.from (l.put.put.next ∙ ap (λ n. n + length (lines_of g.records)) at_start)
 
   texts : next.out.now ≡ here
   texts = put_at_lem l.put.put ∙ ap (λ n. put_at n (lines_of g.records) pen.out.now) at_start
@@ -217,7 +217,7 @@ pub hand_long : (p : Place) (buf : List ℕ) → p.from ≤ p.to → p.to ≤ le
 hand_long p buf h k = length-take-le (p.to - p.from) (drop p.from buf) (omega (arith, length-drop p.from buf))
 
 -- behind the records logged there is room for the closing line where they stopped, and no byte but those at hand was consumed
-module _ (p : Place) (buf : List ℕ) (pen next : Pen) (last : Bool) (st : State) (t : AnyTotal) (w : Logged) (l : LoggedBy (logged (room_of pen) last st (at_hand buf p)) 0 pen t w next) where
+module _ (p : Place) (buf : List ℕ) (pen next : Pen) (last : Bool) (st : State) (t : AnyTotal) (w : Logged) (l : LoggedBy (logged (room_of pen) last st (at_hand buf p)) pen t w next) where
   pub line_behind : pen.at ≤ length pen.out.now → (z : Stopped) → w.closing ≡ Err z → next.at + 68 ≤ length next.out.now
   line_behind room z c =
       let free = read_room (room_of pen) (room_of pen) last st (at_hand buf p) (sym l.closing ∙ ap closing_of c) in

@@ -77,7 +77,7 @@ fn finished(st: State, s: &[u8]) -> bool
         out: &mut line,
         at: 0,
     };
-    let w = runlog::log_records(st, s, 0, false, &mut pen, None);
+    let w = runlog::log_records(st, s, false, &mut pen, None);
     matches!(w.closing, Err(Stopped::Finished))
 }
 

@@ -146,7 +146,7 @@ impl<W: Write> Output<'_, '_, W> {
 
     // The records behind a header, all bytes at hand in each call, and the closing line.
     fn put_records(&mut self, st: State, s: &[u8], last: bool) -> Result<(), Fault> {
-        let w = runlog::log_records(st, s, 0, last, &mut self.pen, None);
+        let w = runlog::log_records(st, s, last, &mut self.pen, None);
         match w.closing {
             Ok(()) => Err(Fault::LongText),
             Err(z) => {

@@ -3,7 +3,7 @@ use mathlib.Core.Path.{◌≡◌, refl, sym, ap, ap₂, ◌∙◌, subst}
 use mathlib.Core.Bool.{Bool, cond, false≢true}
 use mathlib.Core.List.{List, [], ◌∷◌, ◌++◌, append_assoc, append-nil}
 use Prim.Native.Nat.{ℕ, zero, suc, ◌+◌, ◌-◌, ◌≤◌, ◌<◌}
-use native.Mathlib.Nat.{add-zero, add_assoc}
+use native.Mathlib.Nat.{add-zero, zero-add, add_assoc}
 use native.Mathlib.Omega.{arith}
 use borrow.Author.Tests.{ltb-true, ltb-false, lt-ltb, le-ltb}
 use borrow.Table.Steps.{cases as by}
@@ -137,13 +137,13 @@ total_more t [] r = refl
 total_more t (x ∷ rs) r = total_more (plus t (unscaled_of x)) rs r
 
 -- the total before, by the tally that it was put into
-pub logged_as : {g : Reading State Record} {first : ℕ} {p q : Pen} {s : Tally} {t : AnyTotal} {r : Logged} → s ≡ start_of t → LoggedBy g first p s.far r q → LoggedBy g first p t r q
-logged_as {g} {first} {p} {q} {r = r} e l = subst (λ (x : Tally). LoggedBy g first p x.far r q) e l
+pub logged_as : {g : Reading State Record} {p q : Pen} {s : Tally} {t : AnyTotal} {r : Logged} → s ≡ start_of t → LoggedBy g p s.far r q → LoggedBy g p t r q
+logged_as {g} {p} {q} {r = r} e l = subst (λ (x : Tally). LoggedBy g p x.far r q) e l
 
 -- the log put by a pen over the memory that another lends it
-pub logged_lent : {g : Reading State Record} {first : ℕ} {p q x y : Pen} {t : AnyTotal} {r : Logged} →
-    x.out.now ≡ p.out.now → x.at ≡ p.at → y.out.now ≡ q.out.now → y.at ≡ q.at → q.out.ghost_name ≡ p.out.ghost_name → LoggedBy g first x t r y → LoggedBy g first p t r q
-logged_lent {g} {p = p} {q} {x} {y} before from after to same l =
+pub logged_lent : {g : Reading State Record} {p q x y : Pen} {t : AnyTotal} {r : Logged} →
+    x.out.now ≡ p.out.now → x.at ≡ p.at → y.out.now ≡ q.out.now → y.at ≡ q.at → q.out.ghost_name ≡ p.out.ghost_name → LoggedBy g x t r y → LoggedBy g p t r q
+logged_lent {g} {p} {q} {x} {y} before from after to same l =
     let lines = lines_of g.records in
     let start = subst (λ old. Put lines x.at old y.at y.out.now) before l.put.put in
     let begun = subst (λ a. Put lines a p.out.now y.at y.out.now) from start in
@@ -161,9 +161,9 @@ logged_lent {g} {p = p} {q} {x} {y} before from after to same l =
 abbrev pub room_of : Pen → ℕ
 room_of p = length p.out.now - p.at
 
-module _ (last : Bool) (st : State) (src : List ℕ) (from : ℕ) (p : Pen) (total : AnyTotal) where
+module _ (last : Bool) (st : State) (src : List ℕ) (p : Pen) (total : AnyTotal) where
   abbrev all : Reading State Record
-  all = logged (room_of p) last st (drop from src)
+  all = logged (room_of p) last st src
 
   abbrev left : Pen → State → ℕ → Reading State Record
   left q cur f = logged (room_of q) last cur (drop f src)
@@ -172,7 +172,7 @@ module _ (last : Bool) (st : State) (src : List ℕ) (from : ℕ) (p : Pen) (tot
   pub record Logging (q : Pen) (cur : State) (f count : ℕ) (sum : AnyTotal) : Type 0 where
     pub done : List Record
     pub records : all.records ≡ done ++ (left q cur f).records
-    pub taken : from + all.consumed ≡ f + (left q cur f).consumed
+    pub taken : all.consumed ≡ f + (left q cur f).consumed
     pub state : all.state ≡ (left q cur f).state
     pub closing : all.closing ≡ (left q cur f).closing
     pub inside : f ≤ length src
@@ -181,9 +181,9 @@ module _ (last : Bool) (st : State) (src : List ℕ) (from : ℕ) (p : Pen) (tot
     pub few : count ≤ q.at
     pub added : sum ≡ total_from total (unscaled done)
 
-  pub logging_start : from ≤ length src → p.at ≤ length p.out.now → Logging p st from 0 total
+  pub logging_start : p.at ≤ length p.out.now → Logging p st 0 0 total
   unfolding lines_of
-  logging_start h k = record { done = []; records = refl; taken = refl; state = refl; closing = refl; inside = h; put = puts_none k; counted = refl; few = omega arith; added = refl }
+  logging_start h = record { done = []; records = refl; taken = sym (zero-add all.consumed); state = refl; closing = refl; inside = omega arith; put = puts_none h; counted = refl; few = omega arith; added = refl }
 
   pub logging_more : (q : Pen) (cur : State) (f count : ℕ) (sum : AnyTotal) (r : Record) (after : State) (k : ℕ) (next : Pen) → Logging q cur f count sum → 70 ≤ room_of q →
       read last (rule cur) (drop f src) ≡ got (record { shows = r; after = after }) k → Puts (record_line r) q next → Logging next after (f + k) (count + 1) (plus sum (unscaled_of r))
@@ -211,7 +211,7 @@ module _ (last : Bool) (st : State) (src : List ℕ) (from : ℕ) (p : Pen) (tot
 
   -- where nothing is left, by the answer that the loop stopped at
   pub logging_end : (q : Pen) (cur : State) (f count : ℕ) (sum : AnyTotal) (c : Result (Unit {0}) Stopped) → Logging q cur f count sum → left q cur f ≡ nothing cur (closing_of c) →
-      LoggedBy all from p total (record { state = cur; from = f; count = count; total = sum; closing = c }) q
+      LoggedBy all p total (record { state = cur; from = f; count = count; total = sum; closing = c }) q
   logging_end q cur f count sum c g e =
       let rs : all.records ≡ g.done = g.records ∙ ap (λ w. g.done ++ w.records) e ∙ append-nil g.done in
       record {

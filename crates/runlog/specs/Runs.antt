@@ -1,5 +1,5 @@
 -- What the record loop does: records read one behind the other while there is room for their lines.
-use Rattle.std.specs.Prelude.{ℕ, zero, suc, ◌+◌, ◌-◌, ◌≡◌, Bool, cond, List, [], ◌∷◌, ◌++◌, map, ltb, length, drop, Float}
+use Rattle.std.specs.Prelude.{ℕ, zero, suc, ◌-◌, ◌≡◌, Bool, cond, List, [], ◌∷◌, ◌++◌, map, ltb, length, drop, Float}
 use Rattle.rules.specs.Rule.{Read, got, stops, read}
 use Rattle.rules.specs.Calls.{Item, full, stopped, Reading, nothing, ahead}
 use Rattle.chemstation.specs.Next.{rule}
@@ -37,9 +37,9 @@ abbrev pub logged : ℕ → Bool → State → List ℕ → Reading State Record
 logged room last st bs = read_into room room last st bs
 
 -- the answer r and the pen before and after, by what is read and the total before it: the lines of the records are put, and only they
-pub record LoggedBy (g : Reading State Record) (first : ℕ) (p : Pen) (t : AnyTotal) (r : Logged) (q : Pen) : Type 0 where
+pub record LoggedBy (g : Reading State Record) (p : Pen) (t : AnyTotal) (r : Logged) (q : Pen) : Type 0 where
   pub state : r.state ≡ g.state
-  pub from : r.from ≡ first + g.consumed
+  pub from : r.from ≡ g.consumed
   pub count : r.count ≡ length g.records
   pub closing : closing_of r.closing ≡ g.closing
   -- request 1: 'the unscaled values of the r lines printed'

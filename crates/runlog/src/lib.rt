@@ -1,7 +1,7 @@
 // The loop that reads records and puts their lines, and the theorem that a file has one log.
 #![tactic(auto)]
 
-ghost use Rattle.std.specs.Prelude.{◌-◌, ◌≤◌, length, drop};
+ghost use Rattle.std.specs.Prelude.{◌-◌, ◌≤◌, length};
 ghost use Rattle.runlog.specs.Runs.{logged, LoggedBy};
 ghost use Rattle.runlog.specs.Log.{OneLog};
 
@@ -25,22 +25,14 @@ pub struct Logged {
     pub closing: Result<(), Stopped>,
 }
 
-// Reads records from src at index from on, adds their unscaled values to the total and puts their lines by the pen, until its memory
-// has no room for a line or there is another answer than a record.
-// Kept: (a) a position beside the bytes: a public function, whose promise over any position stays.
-pub fn log_records(
-    st: State,
-    src: &[u8],
-    from: usize,
-    last: bool,
-    pen: &mut Pen<'_>,
-    total: Total,
-) -> Logged
-    requires { (from ≤ length src.now) × (pen.old.at ≤ length pen.old.out.now) }
-    ensures { LoggedBy (logged (length pen.old.out.now - pen.old.at) last st (drop from src.now)) from pen.old total result pen.new }
+// Reads records from src, adds their unscaled values to the total and puts their lines by the pen, until its memory has no room for a
+// line or there is another answer than a record.
+pub fn log_records(st: State, src: &[u8], last: bool, pen: &mut Pen<'_>, total: Total) -> Logged
+    requires { pen.old.at ≤ length pen.old.out.now }
+    ensures { LoggedBy (logged (length pen.old.out.now - pen.old.at) last st src.now) pen.old total result pen.new }
 {
     let mut cur = st;
-    let mut f = from;
+    let mut f = 0;
     let mut count: usize = 0;
     let mut sum = Tally::start(total);
     // A pen of its own, which no byte that is put can change: so the compiler keeps its index in a register.

@@ -14,13 +14,13 @@ use Rattle.runlog.proofs.log_records.Goals as goal
 
 pub loop-own-init : goal.loop-own-init
 loop-own-init c =
-    (c.start-sum.result.far, logging_start _ _ _ _ _ _ c.requires.0 c.requires.1, subst (λ (s : Tally). StandsFor s s.far) (sym c.start-sum.ensures) (starts _))
+    (c.start-sum.result.far, logging_start _ _ _ _ _ c.requires, subst (λ (s : Tally). StandsFor s s.far) (sym c.start-sum.ensures) (starts _))
 
 -- the total before the loop is the one that was given
 pub returns-in-Err : goal.returns-in-Err
 returns-in-Err c =
     let q = answered c.loop-own.cur c.args.last c.args.src.now c.loop-own.f _ _ c.next_record.ensures c.in-Err.is in
-    logged_as c.start-sum.ensures (logged_lent refl refl (search rules) refl refl (logging_end _ _ _ _ _ _ _ _ _ _ _ _ (summed _ _ _ _ _ _ (c.total.ensures ∙ totals _ _ c.loop-own.invariant.2) c.loop-own.invariant.1) (logged_stops _ _ _ _ (omega arith) q)))
+    logged_as c.start-sum.ensures (logged_lent refl refl (search rules) refl refl (logging_end _ _ _ _ _ _ _ _ _ _ _ (summed _ _ _ _ _ (c.total.ensures ∙ totals _ _ c.loop-own.invariant.2) c.loop-own.invariant.1) (logged_stops _ _ _ _ (omega arith) q)))
 
 pub loop-own-preserved : goal.loop-own-preserved
 loop-own-preserved c =
@@ -28,7 +28,7 @@ loop-own-preserved c =
     let t = c.loop-own.invariant.0 in
     let q = answered c.loop-own.cur c.args.last c.args.src.now c.loop-own.f _ _ c.next_record.ensures c.in-Ok.is in (
       plus t (unscaled_of r),
-      logging_more _ _ _ _ _ _ _ _ _ _ _ _ _ _ _ c.loop-own.invariant.1 (omega arith) q c.put_record.ensures.put,
+      logging_more _ _ _ _ _ _ _ _ _ _ _ _ _ _ c.loop-own.invariant.1 (omega arith) q c.put_record.ensures.put,
       subst (λ (s : Tally). StandsFor s (plus t (unscaled_of r))) (sym c.add-sum.ensures)
           (subst (λ (v : Float). StandsFor (added_to c.loop-own.sum v) (plus t (unscaled_of r))) (sym c.unscaled.ensures) (adds c.loop-own.sum t (unscaled_of r) c.loop-own.invariant.2)),
     )
@@ -42,4 +42,4 @@ loop-own-smaller c =
 
 pub returns : goal.returns
 returns c =
-    logged_as c.start-sum.ensures (logged_lent refl refl (search rules) refl refl (logging_end _ _ _ _ _ _ _ _ _ _ _ _ (summed _ _ _ _ _ _ (c.total-2.ensures ∙ totals _ _ c.loop-own.invariant.2) c.loop-own.invariant.1) (no_room _ _ _ _ _ (omega arith))))
+    logged_as c.start-sum.ensures (logged_lent refl refl (search rules) refl refl (logging_end _ _ _ _ _ _ _ _ _ _ _ (summed _ _ _ _ _ (c.total-2.ensures ∙ totals _ _ c.loop-own.invariant.2) c.loop-own.invariant.1) (no_room _ _ _ _ _ (omega arith))))
