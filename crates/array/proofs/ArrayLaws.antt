@@ -33,10 +33,10 @@ module _ (st : ChemstationArrayState) (last : Bool) (s : List ℕ) where
     unfolding array_rule
     begins = rw (ne_eqb _ _ due, stores) (sym (at_start last _ s))
 
-    array_gives : w ≤ length s → Reads (got (told (array_made st (g (part 0 w s))) []) w)
+    pub array_gives : w ≤ length s → Reads (got (told (array_made st (g (part 0 w s))) []) w)
     array_gives h = rule_reads (Array st) (array_rule st) last s (begins ∙ number_to last w g _ 0 w s (zero-add w) h ∙ at_gives last _ w s)
 
-    array_cut : length s < w → Reads (stops (cut last))
+    pub array_cut : length s < w → Reads (stops (cut last))
     array_cut l = rule_reads (Array st) (array_rule st) last s (begins ∙ at_cut (more_number w 0 g _ λ x. none) last 0 s (omega arith) (omega arith))
 
   module _ (due : st.n_scans_left.0 ≡ 0 → ⊥) where

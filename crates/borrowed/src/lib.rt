@@ -2,7 +2,7 @@
 // position in them. Functions over them are thin; the work is done by value, on a slice and a number.
 #![tactic(auto)]
 
-ghost use Rattle.std.specs.Prelude.{◌≡◌, length, drop};
+ghost use Rattle.std.specs.Prelude.{◌≡◌, ◌+◌, length, drop};
 ghost use Rattle.rules.specs.Rule.{read};
 ghost use Rattle.chemstation.specs.Next.{rule};
 ghost use Rattle.streams.specs.Next.{answer_of};
@@ -44,12 +44,37 @@ pub fn next_record_mut(st: &mut State, s: &[u8], last: bool) -> Result<Shown, St
 
 // ---- the reader
 
-// The next record from a position on; none from one at or past the end. The position after it is behind the bytes that it took.
-// Kept: (a) a slice with a position, a public function as before: for callers that hold the two themselves (docs/DECISIONS.md, 14).
-pub fn next_at(st: State, s: &[u8], at: usize, last: bool) -> Result<Given, Stopped>
+// What is given at a position.
+// Kept: the answer and a position beside it: a refusal has a position too, the one that was given. (d)
+#[derive(Clone, Copy)]
+pub struct NextAt {
+    pub next: Result<Given, Stopped>,
+    // the position after the record, or as it was
+    pub at: usize,
+}
+
+// What is given from a position on; no bytes are left from one at or past the end.
+fn given_at(st: State, s: &[u8], at: usize, last: bool) -> Result<Given, Stopped>
     ensures { answer_of result ≡ read last (rule st) (drop at s.now) }
 {
     next_record(st, &s[at.min(s.len())..], last)
+}
+
+// The next record from a position on, and the position after it; none from one at or past the end. A refusal, 'finished' and 'more
+// bytes' leave the position.
+// Kept: (a) a slice with a position, a public function as before: for callers that hold the two themselves (docs/DECISIONS.md, 14).
+pub fn next_at(st: State, s: &[u8], at: usize, last: bool) -> NextAt
+    ensures next { answer_of result.next ≡ read last (rule st) (drop at s.now) }
+    ensures at { result.at ≡ at + taken_by st last (drop at s.now) }
+{
+    let next = given_at(st, s, at, last);
+    match next {
+        Ok(given) => NextAt {
+            next,
+            at: at + given.bytes,
+        },
+        Err(_) => NextAt { next, at },
+    }
 }
 
 // The bytes and the position that counts over them.
@@ -82,8 +107,8 @@ impl<'a> Reader<'a> {
         ensures answer { answer_of result ≡ read last (rule st) (unread self.old) }
         ensures moved { self.new ≡ moved self.old (taken_by st last (unread self.old)) }
     {
-        let given = next_at(st, self.bytes, self.at, last)?;
-        self.at += given.bytes;
-        Ok(given)
+        let given = next_at(st, self.bytes, self.at, last);
+        self.at = given.at;
+        given.next
     }
 }

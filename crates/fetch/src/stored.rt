@@ -8,7 +8,7 @@ ghost use Rattle.fetch.specs.Headers.{utf8_in, unpaired_in};
 
 use error::Refusal;
 use utf16::{Recoded, decode_utf16, measured, recode};
-use written::copy_text;
+use written::{copy_text, put};
 
 #[derive(Clone, Copy, Debug, PartialEq, Eq)]
 pub enum Stored<'a> {
@@ -41,7 +41,7 @@ impl<'a> Stored<'a> {
         match self {
             Stored::Utf8(bytes) => {
                 let n = bytes.len();
-                out[..n].copy_from_slice(bytes);
+                put(bytes, out);
                 Recoded {
                     bytes: n,
                     replaced: 0,

@@ -62,6 +62,117 @@ impl From<Edition> for u32 {
     }
 }
 
+// ---- the fields of the eight texts
+
+static OLD: [TextField; 8] = [
+    TextField::Pascal {
+        start: 24,
+        width: 60,
+    },
+    TextField::Pascal {
+        start: 86,
+        width: 60,
+    },
+    TextField::Pascal {
+        start: 148,
+        width: 28,
+    },
+    TextField::Pascal {
+        start: 208,
+        width: 20,
+    },
+    TextField::PascalToEnd { start: 228 },
+    TextField::Absent,
+    TextField::Absent,
+    TextField::Pascal {
+        start: 178,
+        width: 60,
+    },
+];
+
+static OLD_WITH_SIGNAL: [TextField; 8] = [
+    TextField::Pascal {
+        start: 24,
+        width: 60,
+    },
+    TextField::Pascal {
+        start: 86,
+        width: 60,
+    },
+    TextField::Pascal {
+        start: 148,
+        width: 28,
+    },
+    TextField::Pascal {
+        start: 208,
+        width: 20,
+    },
+    TextField::PascalToEnd { start: 228 },
+    TextField::Pascal {
+        start: 596,
+        width: 40,
+    },
+    TextField::Absent,
+    TextField::Pascal {
+        start: 178,
+        width: 60,
+    },
+];
+
+static OLD_WITH_UNITS: [TextField; 8] = [
+    TextField::Pascal {
+        start: 24,
+        width: 60,
+    },
+    TextField::Pascal {
+        start: 86,
+        width: 60,
+    },
+    TextField::Pascal {
+        start: 148,
+        width: 28,
+    },
+    TextField::Pascal {
+        start: 208,
+        width: 20,
+    },
+    TextField::PascalToEnd { start: 228 },
+    TextField::Pascal {
+        start: 596,
+        width: 40,
+    },
+    TextField::Pascal {
+        start: 244,
+        width: 64,
+    },
+    TextField::Pascal {
+        start: 178,
+        width: 60,
+    },
+];
+
+static NEW: [TextField; 8] = [
+    TextField::Utf16 { start: 858 },
+    TextField::Absent,
+    TextField::Utf16 { start: 1880 },
+    TextField::Utf16 { start: 2492 },
+    TextField::Utf16 { start: 2574 },
+    TextField::Absent,
+    TextField::Utf16 { start: 3093 },
+    TextField::Utf16 { start: 2391 },
+];
+
+static NEW_WITH_SIGNAL: [TextField; 8] = [
+    TextField::Utf16 { start: 858 },
+    TextField::Absent,
+    TextField::Utf16 { start: 1880 },
+    TextField::Utf16 { start: 2492 },
+    TextField::Utf16 { start: 2574 },
+    TextField::Utf16 { start: 4213 },
+    TextField::Utf16 { start: 4172 },
+    TextField::Utf16 { start: 2391 },
+];
+
 impl Edition {
     // The smallest size of a header, in bytes.
     #[tactic(auto, unfolding(crate::specs::Table::minima))]
@@ -115,63 +226,18 @@ impl Edition {
     }
 
     // The field of each of the eight texts.
+    // Kept: (b) tables in the program's memory, forty rows where sixteen would do: made anew for each header they cost some 90 instructions
+    // of the 400 that opening a new one takes.
     #[tactic(auto, unfolding(crate::specs::Table::texts))]
-    pub fn fields(self) -> [TextField; 8]
-        ensures { result ≡ map (λ t. look Absent t (edition_number self)) texts }
+    pub fn fields(self) -> &'static [TextField; 8]
+        ensures { result.now ≡ map (λ t. look Absent t (edition_number self)) texts }
     {
-        let signal = match self {
-            Edition::E30 | Edition::E81 => TextField::Pascal {
-                start: 596,
-                width: 40,
-            },
-            Edition::E130 | Edition::E179 => TextField::Utf16 { start: 4213 },
-            _ => TextField::Absent,
-        };
-        let units = match self {
-            Edition::E81 => TextField::Pascal {
-                start: 244,
-                width: 64,
-            },
-            Edition::E131 => TextField::Utf16 { start: 3093 },
-            Edition::E130 | Edition::E179 => TextField::Utf16 { start: 4172 },
-            _ => TextField::Absent,
-        };
         match self {
-            Edition::E130 | Edition::E131 | Edition::E179 => [
-                TextField::Utf16 { start: 858 },
-                TextField::Absent,
-                TextField::Utf16 { start: 1880 },
-                TextField::Utf16 { start: 2492 },
-                TextField::Utf16 { start: 2574 },
-                signal,
-                units,
-                TextField::Utf16 { start: 2391 },
-            ],
-            _ => [
-                TextField::Pascal {
-                    start: 24,
-                    width: 60,
-                },
-                TextField::Pascal {
-                    start: 86,
-                    width: 60,
-                },
-                TextField::Pascal {
-                    start: 148,
-                    width: 28,
-                },
-                TextField::Pascal {
-                    start: 208,
-                    width: 20,
-                },
-                TextField::PascalToEnd { start: 228 },
-                signal,
-                units,
-                TextField::Pascal {
-                    start: 178,
-                    width: 60,
-                },
-            ],
+            Edition::E2 | Edition::E31 | Edition::E102 => &OLD,
+            Edition::E30 => &OLD_WITH_SIGNAL,
+            Edition::E81 => &OLD_WITH_UNITS,
+            Edition::E131 => &NEW,
+            Edition::E130 | Edition::E179 => &NEW_WITH_SIGNAL,
         }
     }
 }

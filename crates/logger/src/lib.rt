@@ -46,6 +46,21 @@ fn name(mode: Mode) -> &'static [u8]
     }
 }
 
+// What could not be read or written, by the name of the program that does.
+fn input_of(mode: Mode) -> &'static [u8] {
+    match mode {
+        Mode::Plain => b"chemlog: standard input",
+        Mode::Atlas => b"atlaslog: standard input",
+    }
+}
+
+fn output_of(mode: Mode) -> &'static [u8] {
+    match mode {
+        Mode::Plain => b"chemlog: standard output",
+        Mode::Atlas => b"atlaslog: standard output",
+    }
+}
+
 // Where a run stands behind what it asked for; an Err where that was not done whole: the run is then over, and what stands in the
 // output buffer may still be written.
 type Stand = Result<Place, Place>;
@@ -65,7 +80,6 @@ impl<E: Write> Teller<'_, E> {
     {
         let mut memory = [0u8; WORDS];
         let words = words_of(e, &mut memory);
-        let _ = self.to.write_all(name(self.mode));
         let _ = self.to.write_all(what);
         let _ = self.to.write_all(b": ");
         let _ = self.to.write_all(words);
@@ -82,7 +96,7 @@ impl<E: Write> Teller<'_, E> {
         match done {
             Ok(()) => Ok(q.wrote(true)),
             Err(e) => {
-                self.fail(b"standard output", &e);
+                self.fail(output_of(self.mode), &e);
                 Err(q.wrote(false))
             }
         }
@@ -122,7 +136,7 @@ fn read_more<R: Read, E: Write>(
     match input.read(&mut buf[n..]) {
         Ok(k) => Ok(q.took(k, buf)),
         Err(e) => {
-            teller.fail(b"standard input", &e);
+            teller.fail(input_of(teller.mode), &e);
             Err(q.over())
         }
     }

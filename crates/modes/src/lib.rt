@@ -21,7 +21,10 @@ fn has_atlas(kind: Kind) -> bool
 pub fn open_atlas(kind: u8, s: &[u8], last: bool) -> Result<OpenedRun, Stopped>
     ensures { OpensBy Mode.Atlas kind last s.now result }
 {
-    let kind = Kind::try_from(kind)?;
+    // Kept: (d) no `?`: the number of a kind that is none stands here beside 18, which comes behind it.
+    let Ok(kind) = Kind::try_from(kind) else {
+        return Err(Refusal::UnknownKind.into());
+    };
     if !has_atlas(kind) {
         return Err(Refusal::KindWithoutAtlas.into());
     }

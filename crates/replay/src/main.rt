@@ -171,9 +171,15 @@ fn put_hex(pen: &mut Pen<'_>, text: &[u8])
     ensures end { pen.new.at ≡ pen.old.at + 2 * length text.now }
     ensures stays { Stays pen.old pen.new }
 {
+    // A pen of its own, which no byte that is put can change: so the compiler keeps its index in a register.
+    let mut own = Pen {
+        out: &mut *pen.out,
+        at: pen.at,
+    };
     for b in text {
-        pen.put_digits(16, 2, u64::from(*b));
+        own.put_digits(16, 2, u64::from(*b));
     }
+    pen.at = own.at;
 }
 
 fn put_numbers(pen: &mut Pen<'_>, d: ChemstationMetadata)

@@ -40,7 +40,7 @@ units_none (a ∷ b ∷ s) h = absurd (omega arith)
 -- ---- a piece, by the tests
 
 module _ (u v : ℕ) where
-  lone_piece : (x n : ℕ) → x ≡ alone u → n ≡ replaced_alone u → (is_high u && is_low v) ≡ false → ◌≡◌ {A = Piece} (record { scalar = x; width = 2; replaced = n }) (piece_of u v)
+  pub lone_piece : (x n : ℕ) → x ≡ alone u → n ≡ replaced_alone u → (is_high u && is_low v) ≡ false → ◌≡◌ {A = Piece} (record { scalar = x; width = 2; replaced = n }) (piece_of u v)
   lone_piece x n e f t = simp (e, f, t)
 
 -- ---- a piece is a scalar

@@ -22,7 +22,7 @@ skip : (p r : List ℕ) → walk (length p) (p ++ r) ≡ walk 0 r
 skip [] r = refl
 skip (b ∷ p) r = skip p r
 
-walk_encode : (x : ℕ) (r : List ℕ) → Scalar x → walk 0 (encode x ++ r) ≡ behind x (walk 0 r)
+pub walk_encode : (x : ℕ) (r : List ℕ) → Scalar x → walk 0 (encode x ++ r) ≡ behind x (walk 0 r)
 walk_encode x r s = go (encode x) (encode_length x).0 (found x r s)
   where
     go : (l : List ℕ) → 1 ≤ length l → front x (length l) ≡ front_in (l ++ r) → walk 0 (l ++ r) ≡ behind x (walk 0 r)
@@ -39,7 +39,7 @@ inverts (c ∷ cs) s = walk_encode c (encodes cs) s.0 ∙ ap (behind c) (inverts
 -- ---- from bytes to scalars and back
 
 -- what is found at the front is walked over
-onward : {l : List ℕ} {c w : ℕ} → Found l c w → walk 0 l ≡ behind c (walk 0 (drop w l))
+pub onward : {l : List ℕ} {c w : ℕ} → Found l c w → walk 0 l ≡ behind c (walk 0 (drop w l))
 onward {l} {c} {w} f = ap (walk 0) f.whole ∙ walk_encode c (drop w l) f.scalar
 
 record Next (l cs : List ℕ) : Type 0 where

@@ -7,7 +7,7 @@ use Prim.Native.Nat.{ℕ, ◌+◌, ◌-◌, ◌*◌, ◌/◌, ◌≤◌, ◌<◌
 use Rattle.std.specs.Prelude.{None}
 use native.Mathlib.Omega.{arith}
 use lib.Dec.{leb, ltb, eqb}
-use lib.ListN.{length, drop, get_or}
+use lib.ListN.{length, drop, get_or, length-append}
 use lib.Seq.{drop-append_seam}
 use borrow.Author.Tests.{ltb-true, ltb-false, leb-true, leb-false, eqb-true, eqb-false, lt-ltb, le-ltb}
 use borrow.Table.Steps.{cases as by}
@@ -132,12 +132,16 @@ found x r s = by_length x one two three four
 
 pub record Found (l : List ℕ) (x w : ℕ) : Type 0 where
   pub scalar : Scalar x
+  pub wide : w ≡ length (encode x)
+  pub fits : w ≤ length l
   pub whole : l ≡ encode x ++ drop w l
 
 made : (x : ℕ) (p l : List ℕ) → Scalar x → encode x ≡ p → Found (p ++ l) x (length p)
 made x p l s e =
     record {
       scalar = s;
+      wide = sym (ap length e);
+      fits = omega (arith, length-append p l);
       whole = ap (λ (k : List ℕ). k ++ l) (sym e) ∙ ap (λ (k : List ℕ). encode x ++ k) (sym (drop-append_seam p l));
     }
 

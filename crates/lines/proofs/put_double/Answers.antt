@@ -12,6 +12,6 @@ unfolding bits_text
 returns-clause-put c =
     let bits : Puts (bits_text (bits_of c.args.x)) c.args.pen.now c.match-f64_to_bits.pen = elim c.match-f64_to_bits.branch [
       | in-Some w ↦ puts_as (ap bits_text (sym w.in-Some.is ∙ c.f64_to_bits.ensures)) (puts_to w.pen-is w.put_bits.ensures)
-      | in-None w ↦ puts_as (ap bits_text (sym w.in-None.is ∙ c.f64_to_bits.ensures)) (puts_to w.pen-is w.put_text.ensures)
+      | in-None w ↦ puts_as (ap bits_text (sym w.in-None.is ∙ c.f64_to_bits.ensures)) (puts_to w.pen-is w.put_nan.ensures)
     ] in
     puts_then bits c.put_byte.ensures

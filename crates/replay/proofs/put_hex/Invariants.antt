@@ -4,4 +4,4 @@ use Rattle.replay.specs.Pens.{Stays}
 use Rattle.replay.proofs.put_hex.Given as goal
 
 abbrev pub invariant-loop-b : goal.invariant-loop-b
-invariant-loop-b l = (l.pen.at ≡ l.initial.pen.at + 2 * l.b-index) × Stays l.initial.pen l.pen
+invariant-loop-b l = (l.own.at ≡ l.initial.own.at + 2 * l.b-index) × Stays l.initial.own l.own
