@@ -47,6 +47,7 @@ fn name(mode: Mode) -> &'static [u8]
 }
 
 // What could not be read or written, by the name of the program that does.
+// Kept: (d) two literals each, and not the name in front of the rest: then a failure is told in one write more.
 fn input_of(mode: Mode) -> &'static [u8] {
     match mode {
         Mode::Plain => b"chemlog: standard input",
